@@ -1,5 +1,5 @@
 # Completion of transdesk for bash: subcommands, their options, and files behind an option.
-# tools/check-completion compares the words with those of `transdesk --help`.
+# packaging/check-completion compares the words with those of `transdesk --help`.
 
 _transdesk() {
     local word=${COMP_WORDS[COMP_CWORD]} before=${COMP_WORDS[COMP_CWORD - 1]}

@@ -1,5 +1,5 @@
 # Completion of transdesk for fish: subcommands, their options, and files behind an option.
-# tools/check-completion compares the words with those of `transdesk --help`.
+# packaging/check-completion compares the words with those of `transdesk --help`.
 
 complete -c transdesk -f
 complete -c transdesk -n __fish_use_subcommand -a simulate -d 'Play steps of the desk and of its builders'

@@ -1,6 +1,6 @@
 #compdef transdesk
 # Completion of transdesk for zsh: subcommands, their options, and files behind an option.
-# tools/check-completion compares the words with those of `transdesk --help`.
+# packaging/check-completion compares the words with those of `transdesk --help`.
 
 _transdesk() {
     local -a subcommands indices tracker explain

@@ -51,7 +51,8 @@ AFFECTS_NOTHING = 'title = "T"; is_affected = false; is_good = true; is_bad = tr
 def words_of(command, changed, *others):
     """The words of a subcommand over the archive `waves`, with other files for some roles."""
     files = {**WAVES, **changed}
-    return [command, *others, *cases.options({r: files[r] for r in cases.READ_BY[command] if r in files})]
+    read = {role: files[role] for role in cases.READ_BY[command] if role in files}
+    return [command, *others, *cases.options(read)]
 
 
 def said_of(role, fault, *more):

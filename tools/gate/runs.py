@@ -29,8 +29,8 @@ class Runs:
 
     def end(self, words, given=None, **how):
         """How the program ends that is called by these words; its status is None if it doesn't end.
-        Standard input is the file of this path, or a stream. Without one it is a folder, which can't
-        be read: a run that reads it ends otherwise."""
+        Standard input is the file of this path, or a stream. Without one it is a folder, which
+        can't be read: a run that reads it ends otherwise."""
         how = {"stdout": subprocess.PIPE, "stderr": subprocess.PIPE, "cwd": self.room, **how}
         stream = given if isinstance(given, int) else os.open(given or self.room, os.O_RDONLY)
         how |= {"stdin": stream, "timeout": SECONDS, "check": False}

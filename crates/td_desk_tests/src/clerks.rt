@@ -144,8 +144,8 @@ fn desk_reads_back(rt: HostRuntime) -> Result<(), Fail> {
     all_leave(&rt, rt.alloc(), &READ_BACK)
 }
 
-// `tools/fail-memory-calls` runs it once for each of its allocations, which is refused. With memory
-// each call succeeds the first time, as above.
+// `tools/stress/fail-memory-calls` runs it once for each of its allocations, which is refused. With
+// memory each call succeeds the first time, as above.
 #[test]
 fn a_clerk_who_lacks_memory_changes_nothing(rt: HostRuntime) -> Result<(), Fail> {
     all_leave_with(&rt, rt.alloc(), &READ_BACK, Tries::Two)

@@ -8,7 +8,7 @@ use td_version::{
     split_rebuild, write_rebuild,
 };
 
-/// Pairs whose order `dpkg --compare-versions` gave; `tools/ask-dpkg-versions` asks it again.
+/// Pairs whose order `dpkg --compare-versions` gave. `tools/compare/ask-dpkg-versions` asks again.
 const ORDERED: &str = "\
 # worked examples
 1.0~rc1 < 1.0

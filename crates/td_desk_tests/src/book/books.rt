@@ -456,8 +456,8 @@ fn rows_are_ready_by_priority_and_then_by_key(rt: HostRuntime) -> Result<(), Fai
     are_played(&rt, rt.alloc(), &READY)
 }
 
-// `tools/fail-memory-calls` runs these two once for each of their allocations, which is refused.
-// With memory each call succeeds the first time, as in the tests above.
+// `tools/stress/fail-memory-calls` runs these two once for each of their allocations, which is
+// refused. With memory each call succeeds the first time, as in the tests above.
 #[test]
 fn an_undo_that_lacks_memory_changes_nothing(rt: HostRuntime) -> Result<(), Fail> {
     let (won, second, third) = WON[0];
