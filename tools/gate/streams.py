@@ -36,6 +36,9 @@ def not_read(runs):
 
 def breaks_off(runs):
     """A terminal can be read up to where its other end was closed."""
+    if not os.path.exists("/dev/ptmx"):
+        print("note: there are no terminals here: inputs that break off are left out")
+        return
     crew = [*FOOBAR, "--builders", "1"]
     for what, words, path in (
         ("an input", ["simulate"], SIMULATED),
