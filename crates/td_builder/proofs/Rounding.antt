@@ -148,7 +148,7 @@ asked_next rows xs i a b c within first later =
     (λ p q f t. asked_append rows (take i xs) (x ∷ []) p q f (asked_one rows x q t)) a b c first
     later)
 
--- those in front of a place, and those behind it
+-- the rows before a place are asked for, and those from it on are left
 pub asks_front : (rows : ℕ) (xs : List ℕ) (i : ℕ) (a b : BuilderModel)
     → Claims (AreAsked rows (take i xs)) a b → Asks rows xs (drop i xs) a b
 asks_front rows xs i a b claims = (take i xs, sym (take-append-drop i xs), claims)
@@ -175,7 +175,7 @@ pub rounds_none : (rows : ℕ) (offers : List ℕ → Type 0) (a b : BuilderMode
     → Claims (λ claims. claims ≡ []) a b → AsksInRounds rows offers [] a b
 rounds_none rows offers a b none = ([], [], refl, ([], refl, none))
 
--- a round more, behind rounds of which nothing is left
+-- a round more, after rounds of which nothing is left
 pub round_more : (rows : ℕ) (offers : List ℕ → Type 0) (xs left : List ℕ) (a b c : BuilderModel)
     → AsksInRounds rows offers [] a b → offers xs → Asks rows xs left b c
     → AsksInRounds rows offers left a c

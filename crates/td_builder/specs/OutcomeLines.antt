@@ -1,4 +1,4 @@
--- The lines that say how builds end: `KEY WORD`, and ` : TEXT` behind the word `waits`. This
+-- The lines that say how builds end: `KEY WORD`, and ` : TEXT` after the word `waits`. This
 -- project's own.
 use Rattle.std.specs.Prelude.{ℕ, List, ◌∷◌, ◌++◌}
 use Rattle.td_text.specs.Spelled.{AreSpelled, IsFirstOther}

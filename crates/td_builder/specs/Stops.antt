@@ -12,7 +12,7 @@ start_stop start.NothingHeld = Mismatch
 start_stop start.NoMemory = NoMemory
 start_stop start.Mismatch = Mismatch
 
--- the same of a finish
+-- a builder finishes only what it holds, so a finish that finds nothing held differs from the seat
 abbrev pub finish_stop : FinishRefusal → WorkStop
 finish_stop finish.NothingHeld = Mismatch
 finish_stop finish.NoMemory = NoMemory

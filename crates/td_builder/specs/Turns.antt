@@ -66,7 +66,7 @@ IsStopped jobs breaks_off goes_on s w t x =
     ⊎ ((job : Job) × (outcome : Outcome) × jobs s job × goes_on w job outcome x
     × IsRefused breaks_off outcome s t)
 
--- some number of turns, behind which the builder stops
+-- some number of turns, after which the builder stops
 abbrev pub WorkedUntil : {W : Type 0} → (BuilderModel → Job → Type 0)
     → (BuilderModel → Outcome → Type 0) → (BuilderModel → Outcome → Type 0)
     → (W → Job → Outcome → W → Type 0) → BuilderModel → W → BuilderModel → W → Type 0

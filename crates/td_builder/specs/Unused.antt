@@ -62,7 +62,7 @@ outcome_of code.Attempted t = Attempted
 outcome_of code.GivenBack t = GivenBack
 outcome_of code.Waits t = Waits t
 
--- the next line of the key in this slot: so many were used, this is the one behind them, and its
+-- the next line of the key in this slot: so many were used, this is the one after them, and its
 -- text is there
 pub record IsNext (slot : ℕ) (lines : List KeyLine) (used : List ℕ)
     (texts : List (List ℕ)) : Type 0 where

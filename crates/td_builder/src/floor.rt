@@ -26,6 +26,17 @@ pub trait Builds {
         ensures { goes_on self.old job result self.new };
 }
 
+/// What a call of a floor gives: a value that tells one answer. Where only the call itself can make
+/// the value, no answer is made up.
+pub trait Tells<A> {
+    /// The answer.
+    ghost tells: { Self → A };
+
+    /// Takes the answer out.
+    fn answer(self) -> A
+        ensures { result ≡ tells self };
+}
+
 /// Where builders find rows. Many builders' threads share one.
 pub trait Floor {
     ghost use Rattle.atomic_table.specs.Seated.{TableId};
@@ -36,6 +47,12 @@ pub trait Floor {
 
     /// What it gives a builder to go home with: none goes home without it.
     type Home;
+
+    /// What `start` gives: it tells the job, or why there is none.
+    type Started: Tells<Result<Job, StartRefusal>>;
+
+    /// What `finish` gives: it tells the number of the entry, or why there is none.
+    type Ended: Tells<Result<EntryNo, FinishRefusal>>;
 
     /// The table of the board at which its builders sit.
     ghost table: { Self → TableId };
@@ -53,7 +70,8 @@ pub trait Floor {
     /// that the build of the row in hand ended with it, text included.
     ghost ends: { Self → BuilderModel → OutcomeValue → Type 0 };
 
-    /// The same where `finish` was refused, though the build ended.
+    /// What is known of a builder's seat, as it stood, and an outcome once `finish` was refused
+    /// though the build of the row in hand ended with it.
     ghost breaks_off: { Self → BuilderModel → OutcomeValue → Type 0 };
 
     /// What is known once `wait_for_work` has said that nothing more comes.
@@ -75,24 +93,21 @@ pub trait Floor {
             (IsLost (rows self.now) row seat.old seat.new) };
 
     /// Starts the build of the row that the builder holds.
-    fn start<R: Wait>(&self, rt: &R, seat: &BuilderSeat) -> Result<Job, StartRefusal>
+    fn start<R: Wait>(&self, rt: &R, seat: &BuilderSeat) -> Self::Started
         requires { seat.now.table ≡ table self.now }
-        ensures job { IfOk result (jobs self.now seat.now) }
-        ensures err { IfErr result (λ e. stopped self.now (start_stop e)) };
+        ensures job { IfOk (Self.Started.tells result) (jobs self.now seat.now) }
+        ensures err { IfErr (Self.Started.tells result) (λ e. stopped self.now (start_stop e)) };
 
     /// Ends the build of the row that the builder holds. Where that is refused it may have ended
     /// all the same, as the seat says.
-    fn finish<R: Wait>(
-        &self,
-        rt: &R,
-        seat: &mut BuilderSeat,
-        outcome: Outcome,
-    ) -> Result<EntryNo, FinishRefusal>
+    fn finish<R: Wait>(&self, rt: &R, seat: &mut BuilderSeat, outcome: Outcome) -> Self::Ended
         requires table { seat.old.table ≡ table self.now }
         requires hand { IsHolding seat.old }
-        ensures ok { OnOk result (IsFinished (ends self.now) outcome seat.old seat.new) }
-        ensures seat { OnErr result (IsRefused (breaks_off self.now) outcome seat.old seat.new) }
-        ensures err { IfErr result (λ e. stopped self.now (finish_stop e)) };
+        ensures ok { OnOk (Self.Ended.tells result)
+            (IsFinished (ends self.now) outcome seat.old seat.new) }
+        ensures seat { OnErr (Self.Ended.tells result)
+            (IsRefused (breaks_off self.now) outcome seat.old seat.new) }
+        ensures err { IfErr (Self.Ended.tells result) (λ e. stopped self.now (finish_stop e)) };
 
     /// Waits until a row waits for a builder, or the floor is shut. Where it is shut, and none
     /// waits, the builder gets what it goes home with.

@@ -17,7 +17,7 @@ pub struct KeyLine {
     pub line: usize,
 }
 
-// Adds a line behind those of a key that has some.
+// Adds a line after those of a key that has some.
 fn push_behind(
     by_key: &mut IndexMap<Key, Vec<KeyLine>>,
     key: &Key,
@@ -50,7 +50,7 @@ fn push_first(
     Ok(())
 }
 
-/// Adds a line behind those of its key.
+/// Adds a line after those of its key.
 pub(crate) fn push_line(
     alloc: Global,
     by_key: &mut IndexMap<Key, Vec<KeyLine>>,

@@ -18,7 +18,7 @@ mod unused;
 mod working;
 
 pub use fault::OutcomesFault;
-pub use floor::{Builds, Floor};
+pub use floor::{Builds, Floor, Tells};
 pub use outcomes::Outcomes;
 pub use stop::WorkStop;
 pub use working::work;

@@ -21,7 +21,7 @@ pub(crate) struct Unused {
     used: Vec<usize>,
 }
 
-/// The same under a lock, which is made while no line is used, and each has its text.
+/// What wasn't used yet, under a lock that is made while no line is used and each has its text.
 #[derive(Drop)]
 pub(crate) struct UnusedLock {
     unused: Mutex<Unused>,

@@ -5,7 +5,7 @@ ghost use Rattle.td_builder.specs.Floors.{IsHolding, IsIdle};
 ghost use Rattle.td_builder.specs.Rounds.{Asks, AsksInRounds, Claims, IsAsked};
 ghost use Rattle.td_builder.specs.Turns.{Worked, WorkedUntil};
 
-use crate::floor::{Builds, Floor};
+use crate::floor::{Builds, Floor, Tells};
 use crate::stop::{WorkStop, finish_stop, start_stop};
 use std::sync::Wait;
 use td_board::{BuilderSeat, Hand};
@@ -132,12 +132,12 @@ fn build_held<F: Floor, B: Builds, R: Wait>(
         (F.breaks_off floor.now) B.goes_on seat.old builds.old seat.new builds.new) }
     ensures stopped { IfErr result (F.stopped floor.now) }
 {
-    let job = match floor.start(rt, seat) {
+    let job = match floor.start(rt, seat).answer() {
         Ok(job) => job,
         Err(refusal) => return Err(start_stop(refusal)),
     };
     let outcome = builds.build(rt, job);
-    match floor.finish(rt, seat, outcome) {
+    match floor.finish(rt, seat, outcome).answer() {
         Ok(_) => Ok(()),
         Err(refusal) => Err(finish_stop(refusal)),
     }

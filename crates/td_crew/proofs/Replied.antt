@@ -98,7 +98,7 @@ undo_refused Of n e before now old new refused a of same put = (
 )
 
 -- what is said to an undo
-pub undo_said : (Of : BookModel → Type 0) (n : ℕ)
+undo_said : (Of : BookModel → Type 0) (n : ℕ)
     (answer : Result (Unit {0}) UndoRefusal) (before now : List ℕ) (old new : ClerkModel)
     (refused : Bool) → Undoing n Of answer
     → OnOk answer (new ≡ with_receipt (Undid n) old) → OnErr answer (new ≡ old)
@@ -130,6 +130,21 @@ undo_said Of n (Err undos.AlreadyUndone) before now old new refused a ok err put
 undo_said Of n (Err (undos.Blocked m)) before now old new refused a ok err put =
     undo_refused Of n (undos.Blocked m) before now old new refused
     a refl err put
+
+-- what is said to an undo by the answer that was taken out of what tells it
+pub undo_taken : (Of : BookModel → Type 0) (n : ℕ)
+    (answer told : Result (Unit {0}) UndoRefusal) (before now : List ℕ) (old new : ClerkModel)
+    (refused : Bool) → answer ≡ told → Undoing n Of told
+    → OnOk told (new ≡ with_receipt (Undid n) old) → OnErr told (new ≡ old)
+    → IsUndoPut n answer before now refused
+    → Says (MayUndo Of n) before now old.receipts new.receipts refused
+undo_taken Of n answer told before now old new refused taken its ok err put =
+    undo_said Of n answer before now old new refused
+    (subst (λ (r : Result (Unit {0}) UndoRefusal). Undoing n Of r) (sym taken) its)
+    (subst (λ (r : Result (Unit {0}) UndoRefusal). OnOk r (new ≡ with_receipt (Undid n) old))
+    (sym taken) ok)
+    (subst (λ (r : Result (Unit {0}) UndoRefusal). OnErr r (new ≡ old)) (sym taken) err)
+    put
 
 -- an undo takes none of the clerk's parts
 pub parts_undone : (n : ℕ) (answer : Result (Unit {0}) UndoRefusal) (old new : ClerkModel)

@@ -18,6 +18,7 @@ use crate::shown::{entry, journal, report, row, swept_in};
 use std::alloc::{AllocError, Global};
 use std::sync::Wait;
 use std::sync::ledger::Ledger;
+use td_builder::Tells;
 use td_desk::{Clerk, Desk, Named, Receipt};
 use td_journal::EntryNo;
 use td_rows::Key;
@@ -75,7 +76,7 @@ fn undo<N: Named, C: Ledger, R: Wait>(
         (IsMetBy N.table N.origin N.opened clerk.old.parts clerk.old.receipts) n)
         (string_bytes out.old) (string_bytes out.new) clerk.old.receipts clerk.new.receipts) }
 {
-    put_undo(out, n, desk.undo(rt, clerk, n))
+    put_undo(out, n, desk.undo(rt, clerk, n).answer())
 }
 
 // The answer to an arrival. Its entry is told by the receipt.

@@ -131,6 +131,7 @@ fn tell_in_shift<N: Named + Send + Sync, C: Ledger + Send + Sync, T: Reports>(
 ) -> Result<(Told, Clerk<C>, Homes<N>), AllocError>
     requires seats { All (λ s. s.table ≡ N.table) seats.items }
     requires few { length seats.items ≤ max_builders }
+    requires staffed { N.origin.builders ≡ length seats.items }
     requires fits { FitAnyBook T.fits lines.now.reports }
     requires archs { table lines.now.archs.now ≡ N.origin.stock.table }
     requires new { clerk.receipts ≡ [] }
@@ -143,13 +144,12 @@ fn tell_in_shift<N: Named + Send + Sync, C: Ledger + Send + Sync, T: Reports>(
         lines.now.script.now (length seats.items) (length seats.items - made.2.count)
         made.1.receipts made.0) }
 {
-    let builders = seats.len() as u64;
     let (hired, homes) = hire::<N>(lines.alloc, seats)?;
     let shift = Shift::new(desk, homes);
     match tell_beside(rt, &shift, clerk, hired, builds, lines) {
         Ok((mut told, clerk, _shut)) => {
             let homes = shift.end()?;
-            told.refused += homes.missing(builders);
+            told.refused += homes.missing();
             Ok((told, clerk, homes))
         }
         Err(_shut) => Err(AllocError),

@@ -3,7 +3,7 @@ ghost use Rattle.std.specs.Prelude.{◌≡◌, IfErr, IfOk, OnOk, OnErr, OnSome,
 ghost use Rattle.td_core.specs.History.{rows_of};
 ghost use Rattle.td_book.specs.Desk.{BookModel};
 ghost use Rattle.td_book.specs.Ready.{is_any_queued};
-ghost use Rattle.td_builder.specs.Floors.{IsHolding, IsFinished, IsRefused};
+ghost use Rattle.td_builder.specs.Floors.{IsHolding, IsFinished, IsIdle, IsRefused};
 ghost use Rattle.td_desk.specs.Calls.{IsOfDesk, Starting, Finishing, MayStart, MayBeReady};
 ghost use Rattle.td_desk.specs.Calls.{IsAtEnd, MayEnd, MayBreakOff};
 
@@ -12,10 +12,8 @@ use std::sync::atomic::{AtomicBool, Ordering};
 use std::sync::ledger::Ledger;
 use std::sync::{Mutex, Wait};
 use td_board::BuilderSeat;
-use td_book::{FinishRefusal, Job, StartRefusal};
 use td_builder::Floor;
-use td_desk::{Desk, Home, Homes, Named};
-use td_journal::EntryNo;
+use td_desk::{Desk, Ended, Hired, Home, Homes, Named, Started};
 use td_rows::Outcome;
 
 /// A desk as its builders see it. Once a builder has stopped for memory, `ready` says to the others
@@ -43,9 +41,11 @@ impl<'d, 'a, N: Named, C: Ledger> Shift<'d, 'a, N, C> {
         self.wants_memory.store(true, Ordering::SeqCst);
     }
 
-    /// A builder goes home.
-    pub fn go_home<R: Wait>(&self, rt: &R, home: Home<N>) {
-        self.homes.lock(rt).add(home);
+    /// A builder goes home. It has no row, and leaves its seat.
+    pub fn go_home<R: Wait>(&self, rt: &R, home: Home<N>, hired: Hired<N>)
+        requires { IsIdle hired.seat }
+    {
+        self.homes.lock(rt).add(home, hired);
     }
 
     /// Who has gone home, once no builder has a thread any more. Of want of memory none is told.
@@ -61,6 +61,10 @@ impl<'d, 'a, N: Named, C: Ledger> Floor for Shift<'d, 'a, N, C> {
     ghost use Rattle.td_desk.specs.Calls.{IsAtEnd, MayBeReady, MayBreakOff, MayEnd, MayStart};
 
     type Home = Home<N>;
+
+    type Started = Started<N>;
+
+    type Ended = Ended<N>;
 
     ghost table = { λ s. N.table };
 
@@ -92,29 +96,25 @@ impl<'d, 'a, N: Named, C: Ledger> Floor for Shift<'d, 'a, N, C> {
         self.desk.claim(row, seat)
     }
 
-    fn start<R: Wait>(&self, rt: &R, seat: &BuilderSeat) -> Result<Job, StartRefusal>
+    fn start<R: Wait>(&self, rt: &R, seat: &BuilderSeat) -> Started<N>
         requires { seat.now.table ≡ N.table }
-        ensures answer { Starting seat.now N.table N.origin result }
-        ensures job { IfOk result (MayStart N.table N.origin seat.now) }
-        ensures err { IfErr result (λ e. Unit {0}) }
+        ensures answer { Starting seat.now N.table N.origin result.answer }
+        ensures job { IfOk result.answer (MayStart N.table N.origin seat.now) }
+        ensures err { IfErr result.answer (λ e. Unit {0}) }
     {
         Floor::start(self.desk, rt, seat)
     }
 
-    fn finish<R: Wait>(
-        &self,
-        rt: &R,
-        seat: &mut BuilderSeat,
-        outcome: Outcome,
-    ) -> Result<EntryNo, FinishRefusal>
+    fn finish<R: Wait>(&self, rt: &R, seat: &mut BuilderSeat, outcome: Outcome) -> Ended<N>
         requires table { seat.old.table ≡ N.table }
         requires hand { IsHolding seat.old }
-        ensures answer { Finishing outcome seat.old seat.new N.table N.origin result }
-        ensures ok { OnOk result
+        ensures outcome { result.outcome.value ≡ outcome }
+        ensures answer { Finishing outcome seat.old seat.new N.table N.origin result.answer }
+        ensures ok { OnOk result.answer
             (IsFinished (MayEnd N.table N.origin) outcome seat.old seat.new) }
-        ensures seat { OnErr result
+        ensures seat { OnErr result.answer
             (IsRefused (MayBreakOff N.table N.origin) outcome seat.old seat.new) }
-        ensures err { IfErr result (λ e. Unit {0}) }
+        ensures err { IfErr result.answer (λ e. Unit {0}) }
     {
         Floor::finish(self.desk, rt, seat, outcome)
     }

@@ -5,15 +5,15 @@ ghost use Rattle.td_book.specs.Desk.{BookModel};
 ghost use Rattle.td_book.specs.Ready.{is_any_queued};
 ghost use Rattle.td_desk.specs.Calls.{IsOfDesk, MayBeReady, Starting, Finishing};
 
+use crate::answers::{Ended, Started};
 use crate::desk::Desk;
 use crate::home::Home;
 use crate::named::Named;
 use std::alloc::AllocError;
+use std::snapshot::Snapshot;
 use std::sync::Wait;
 use std::sync::ledger::Ledger;
 use td_board::BuilderSeat;
-use td_book::{FinishRefusal, Job, StartRefusal};
-use td_journal::EntryNo;
 use td_rows::Outcome;
 
 impl<'a, N: Named, C: Ledger> Desk<'a, N, C> {
@@ -26,27 +26,31 @@ impl<'a, N: Named, C: Ledger> Desk<'a, N, C> {
     }
 
     /// Starts the build of the row that the builder holds.
-    pub fn start<R: Wait>(&self, rt: &R, seat: &BuilderSeat) -> Result<Job, StartRefusal>
+    pub fn start<R: Wait>(&self, rt: &R, seat: &BuilderSeat) -> Started<N>
         requires { seat.now.table ≡ N.table }
-        ensures { Starting seat.now N.table N.origin result }
+        ensures { Starting seat.now N.table N.origin result.answer }
     {
-        self.locked.lock(rt).start(&self.board, seat)
+        let mut locked = self.locked.lock(rt);
+        let before = Snapshot::of(locked.book());
+        let answer = locked.start(&self.board, seat);
+        Started::of(before, &locked, seat, answer)
     }
 
     /// Ends the build of the row that the builder holds.
-    pub fn finish<R: Wait>(
-        &self,
-        rt: &R,
-        seat: &mut BuilderSeat,
-        outcome: Outcome,
-    ) -> Result<EntryNo, FinishRefusal>
+    pub fn finish<R: Wait>(&self, rt: &R, seat: &mut BuilderSeat, outcome: Outcome) -> Ended<N>
         requires { seat.old.table ≡ N.table }
         ensures table { seat.new.table ≡ seat.old.table }
-        ensures answer { Finishing outcome seat.old seat.new N.table N.origin result }
+        ensures outcome { result.outcome.value ≡ outcome }
+        ensures answer { Finishing outcome seat.old seat.new N.table N.origin result.answer }
     {
-        let answer = self.locked.lock(rt).finish(&self.board, seat, outcome);
+        let (was, told) = (Snapshot::of(&*seat), Snapshot::of(&outcome));
+        let mut locked = self.locked.lock(rt);
+        let before = Snapshot::of(locked.book());
+        let answer = locked.finish(&self.board, seat, outcome);
+        let ended = Ended::of(before, &locked, was, seat, told, answer);
+        drop(locked);
         self.locked.wake();
-        answer
+        ended
     }
 
     /// Waits until a row waits for a builder, or the desk is shut. If it is shut, and none waits,

@@ -6,13 +6,15 @@ ghost use Rattle.td_desk.specs.Calls.{Commanding, Undoing, Arriving, Sweeping, I
 ghost use Rattle.td_desk.specs.Calls.{arrival_receipt};
 ghost use Rattle.td_desk.specs.Clerks.{with_receipt};
 
+use crate::answers::Undone;
 use crate::clerk::Clerk;
 use crate::desk::Desk;
 use crate::named::Named;
 use std::alloc::AllocError;
+use std::snapshot::Snapshot;
 use std::sync::Wait;
 use std::sync::ledger::Ledger;
-use td_book::{ArriveRefusal, CommandRefusal, Taken, UndoRefusal};
+use td_book::{ArriveRefusal, CommandRefusal, Taken};
 use td_journal::EntryNo;
 use td_rows::Key;
 use td_wbread::Command;
@@ -49,19 +51,21 @@ impl<'a, N: Named, C: Ledger> Desk<'a, N, C> {
 
     /// An undo by a clerk. Room for its receipt is made before the lock is taken. That there is
     /// none is told after the marks were asked.
-    pub fn undo<R: Wait>(&self, rt: &R, clerk: &mut Clerk<C>, n: EntryNo) -> Result<(), UndoRefusal>
-        ensures ok { OnOk result (clerk.new ≡ with_receipt (receipt.Undid n) clerk.old) }
-        ensures err { OnErr result (clerk.new ≡ clerk.old) }
+    pub fn undo<R: Wait>(&self, rt: &R, clerk: &mut Clerk<C>, n: EntryNo) -> Undone<N>
+        ensures ok { OnOk result.answer (clerk.new ≡ with_receipt (receipt.Undid n) clerk.old) }
+        ensures err { OnErr result.answer (clerk.new ≡ clerk.old) }
         ensures answer { Undoing n
-            (IsMetBy N.table N.origin N.opened clerk.old.parts clerk.old.receipts) result }
+            (IsMetBy N.table N.origin N.opened clerk.old.parts clerk.old.receipts) result.answer }
+        ensures entry { result.entry ≡ n }
     {
         let _ = clerk.receipts.reserve(1);
-        let answer = self
-            .locked
-            .lock_as(rt, &mut clerk.share)
-            .undo(&self.board, &mut clerk.share, &mut clerk.receipts, n);
+        let mut locked = self.locked.lock_as(rt, &mut clerk.share);
+        let before = Snapshot::of(locked.book());
+        let answer = locked.undo(&self.board, &mut clerk.share, &mut clerk.receipts, n);
+        let undone = Undone::of(before, &locked, n, answer);
+        drop(locked);
         self.locked.wake();
-        answer
+        undone
     }
 
     /// An arrival that a clerk tells of. Room for its receipt is made before the lock is taken. That

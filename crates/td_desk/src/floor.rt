@@ -7,6 +7,7 @@ ghost use Rattle.td_builder.specs.Floors.{IsHolding, IsFinished, IsRefused};
 ghost use Rattle.td_desk.specs.Calls.{IsOfDesk, Starting, Finishing, MayStart, MayBeReady};
 ghost use Rattle.td_desk.specs.Calls.{IsAtEnd, MayEnd, MayBreakOff};
 
+use crate::answers::{Ended, Started};
 use crate::desk::Desk;
 use crate::home::Home;
 use crate::named::Named;
@@ -14,15 +15,17 @@ use std::alloc::AllocError;
 use std::sync::Wait;
 use std::sync::ledger::Ledger;
 use td_board::BuilderSeat;
-use td_book::{FinishRefusal, Job, StartRefusal};
 use td_builder::Floor;
-use td_journal::EntryNo;
 use td_rows::Outcome;
 
 impl<'a, N: Named, C: Ledger> Floor for Desk<'a, N, C> {
     ghost use Rattle.td_desk.specs.Calls.{IsAtEnd, MayBeReady, MayBreakOff, MayEnd, MayStart};
 
     type Home = Home<N>;
+
+    type Started = Started<N>;
+
+    type Ended = Ended<N>;
 
     ghost table = { λ d. N.table };
 
@@ -52,30 +55,26 @@ impl<'a, N: Named, C: Ledger> Floor for Desk<'a, N, C> {
     }
 
     #[tactic(auto, using(crate::proofs::Flooring::started))]
-    fn start<R: Wait>(&self, rt: &R, seat: &BuilderSeat) -> Result<Job, StartRefusal>
+    fn start<R: Wait>(&self, rt: &R, seat: &BuilderSeat) -> Started<N>
         requires { seat.now.table ≡ N.table }
-        ensures answer { Starting seat.now N.table N.origin result }
-        ensures job { IfOk result (MayStart N.table N.origin seat.now) }
-        ensures err { IfErr result (λ e. Unit {0}) }
+        ensures answer { Starting seat.now N.table N.origin result.answer }
+        ensures job { IfOk result.answer (MayStart N.table N.origin seat.now) }
+        ensures err { IfErr result.answer (λ e. Unit {0}) }
     {
         Desk::start(self, rt, seat)
     }
 
     #[tactic(auto, using(crate::proofs::Flooring::finished, crate::proofs::Flooring::kept_or_finished))]
-    fn finish<R: Wait>(
-        &self,
-        rt: &R,
-        seat: &mut BuilderSeat,
-        outcome: Outcome,
-    ) -> Result<EntryNo, FinishRefusal>
+    fn finish<R: Wait>(&self, rt: &R, seat: &mut BuilderSeat, outcome: Outcome) -> Ended<N>
         requires table { seat.old.table ≡ N.table }
         requires hand { IsHolding seat.old }
-        ensures answer { Finishing outcome seat.old seat.new N.table N.origin result }
-        ensures ok { OnOk result
+        ensures outcome { result.outcome.value ≡ outcome }
+        ensures answer { Finishing outcome seat.old seat.new N.table N.origin result.answer }
+        ensures ok { OnOk result.answer
             (IsFinished (MayEnd N.table N.origin) outcome seat.old seat.new) }
-        ensures seat { OnErr result
+        ensures seat { OnErr result.answer
             (IsRefused (MayBreakOff N.table N.origin) outcome seat.old seat.new) }
-        ensures err { IfErr result (λ e. Unit {0}) }
+        ensures err { IfErr result.answer (λ e. Unit {0}) }
     {
         Desk::finish(self, rt, seat, outcome)
     }

@@ -1,5 +1,5 @@
 //! Builders' seats at a named board.
-ghost use Rattle.std.specs.Prelude.{◌≡◌, All, IfOk, map};
+ghost use Rattle.std.specs.Prelude.{◌≡◌, All, IfOk, length, map};
 
 use crate::home::Homes;
 use crate::named::Named;
@@ -27,18 +27,21 @@ impl<N: Named> Hired<N> {
     }
 }
 
-/// The seats, each as one at the named board, in their order, and that no builder has gone home.
+/// The seats of the desk's builders, each as one at the named board, in their order, and that none
+/// of them has gone home.
 pub fn hire<N: Named>(
     alloc: Global,
     seats: Vec<BuilderSeat>,
 ) -> Result<(Vec<Hired<N>>, Homes<N>), AllocError>
-    requires { All (λ s. s.table ≡ N.table) seats.items }
+    requires seats { All (λ s. s.table ≡ N.table) seats.items }
+    requires all { length seats.items ≡ N.origin.builders }
     ensures hired { IfOk result (λ made. map (λ h. h.seat) made.0.items ≡ seats.items) }
     ensures none { IfOk result (λ made. made.1.count ≡ 0) }
 {
-    let mut hired = Vec::with_capacity(alloc, seats.len())?;
+    let builders = seats.len();
+    let mut hired = Vec::with_capacity(alloc, builders)?;
     for seat in seats {
         hired.push(Hired::new(seat)).map_err(AllocError::from)?;
     }
-    Ok((hired, Homes::none()))
+    Ok((hired, Homes::none(builders as u64)))
 }

@@ -10,6 +10,7 @@
 //! a builder gets a `Home` where it is shut and no row waits.
 #![tactic(auto)]
 
+mod answers;
 mod building;
 mod clerk;
 mod clerking;
@@ -28,6 +29,7 @@ mod receipt;
 mod tick;
 mod told;
 
+pub use answers::{Ended, Started, Undone};
 pub use clerk::Clerk;
 pub use closing::Differ;
 pub use desk::{Desk, PARTS};

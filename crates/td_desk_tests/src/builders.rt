@@ -19,7 +19,7 @@ const WORKS: [Played<'static>; 4] = [
     (
         "foo/amd64 Needs-Build 0 0\n",
         "foo/amd64 givenback\nfoo/amd64 built\n",
-        "shut => true\nwork => Some(Ok(2))\nwork => Some(Ok(0))\n",
+        "shut => true\nwork => Some(Ok(2))\nwork => None\n",
         "closed\nreplayed\ntransdesk journal 2\n\
          1 + claim=1 foo/amd64\n\
          2 + givenback=1 foo/amd64\n\

@@ -12,6 +12,7 @@ use std::test::Fail;
 use std::thread::Threads;
 use std::{mem, thread};
 use td_book::{Book, CommandRefusal, Taken, UndoRefusal};
+use td_builder::Tells;
 use td_desk::{Clerk, Desk, Hired, Homes, Named, Receipt};
 use td_journal::EntryNo;
 use td_relation::Archs;
@@ -77,7 +78,7 @@ fn serve<N: Named, C: Ledger, R: Wait>(
     let (mut hired, mut builds) = (hired, tally);
     match style {
         Style::Claim => claim_on(rt, desk, &mut hired, tally),
-        Style::Work => match work_of(rt, desk, &mut hired, &mut builds, homes) {
+        Style::Work => match work_of(rt, desk, hired, &mut builds, homes).0 {
             Ok(built) => tally.finish(built),
             Err(_) => tally.note(Answer::Wrong),
         },
@@ -117,7 +118,7 @@ fn undo<N: Named, C: Ledger, R: Wait>(
     n: EntryNo,
 ) -> Answer {
     let before = has_undone(clerk.receipts(), n);
-    let lawful = match desk.undo(rt, clerk, n) {
+    let lawful = match desk.undo(rt, clerk, n).answer() {
         Ok(()) if !before => return Answer::Accepted,
         Err(UndoRefusal::Blocked(m)) => {
             !before && m > n && desk.look(rt, |book| have_a_row_in_common(book, n, m))

@@ -12,20 +12,21 @@ use td_desk::{Desk, Hired, Homes, Named};
 fn work_both<N: Named + Send + Sync, C: Ledger + Send + Sync, R: Threads + Wait + Sync>(
     rt: &R,
     desk: &Desk<'static, N, C>,
-    one: &mut Hired<N>,
-    two: &mut Hired<N>,
+    one: Hired<N>,
+    two: Hired<N>,
     homes: &Mutex<Homes<N>>,
 ) -> (Result<u64, WorkStop>, Result<u64, WorkStop>) {
     let together = Together::new();
     let (mut first, mut second) = (&together, &together);
-    thread::join(
+    let ((one, _), (two, _)) = thread::join(
         rt,
         || work_of(rt, desk, one, &mut first, homes),
         || work_of(rt, desk, two, &mut second, homes),
-    )
+    );
+    (one, two)
 }
 
-// What the work of the first two builders is answered, at the same time; nothing without two.
+// What the work of the last two builders is answered, at the same time; nothing without two.
 pub(crate) fn work_together<
     N: Named + Send + Sync,
     C: Ledger + Send + Sync,
@@ -35,7 +36,7 @@ pub(crate) fn work_together<
     desk: &Desk<'static, N, C>,
     people: &mut People<N, C>,
 ) -> Option<(Result<u64, WorkStop>, Result<u64, WorkStop>)> {
-    let (one, rest) = people.builders.split_first_mut()?;
-    let two = rest.first_mut()?;
+    let two = people.builders.pop()?;
+    let one = people.builders.pop()?;
     Some(work_both(rt, desk, one, two, &people.homes))
 }

@@ -1,5 +1,5 @@
 //! Clerks and builders at a named board.
-ghost use Rattle.std.specs.Prelude.{◌≡◌, All};
+ghost use Rattle.std.specs.Prelude.{◌≡◌, All, length};
 
 use std::alloc::{AllocError, Global};
 use std::sync::ledger::Ledger;
@@ -7,7 +7,7 @@ use std::sync::{Mutex, Wait};
 use std::test::Fail;
 use td_board::BuilderSeat;
 use td_book::{CommandRefusal, Taken};
-use td_builder::{Builds, Outcomes, WorkStop, work};
+use td_builder::{Builds, Outcomes, Tells, WorkStop, work};
 use td_desk::{Clerk, Desk, Hired, Homes, Named, hire};
 use td_relation::Archs;
 use td_rows::Outcome;
@@ -41,26 +41,31 @@ pub(crate) fn build<N: Named, C: Ledger, R: Wait>(
     row: usize,
     outcome: Outcome,
 ) -> bool {
-    let is_its_own = match desk.start(rt, &hired.seat) {
+    let is_its_own = match desk.start(rt, &hired.seat).answer() {
         Ok(job) => desk.row_no(&job.key) == Some(row),
         Err(_) => false,
     };
-    is_its_own && desk.finish(rt, &mut hired.seat, outcome).is_ok()
+    is_its_own && desk.finish(rt, &mut hired.seat, outcome).answer().is_ok()
 }
 
-// What a builder's work is answered. Where it goes home, it is counted among those who did.
+// What a builder's work is answered, and the builder. One that goes home is counted among those who
+// did.
 pub(crate) fn work_of<N: Named, C: Ledger, B: Builds, R: Wait>(
     rt: &R,
     desk: &Desk<'static, N, C>,
-    hired: &mut Hired<N>,
+    hired: Hired<N>,
     builds: &mut B,
     homes: &Mutex<Homes<N>>,
-) -> Result<u64, WorkStop> {
-    let (built, home) = work(rt, desk, &mut hired.seat, builds)?;
-    if let Some(home) = home {
-        homes.lock(rt).add(home);
+) -> (Result<u64, WorkStop>, Option<Hired<N>>) {
+    let mut hired = hired;
+    match work(rt, desk, &mut hired.seat, builds) {
+        Ok((built, Some(home))) => {
+            homes.lock(rt).add(home, hired);
+            (Ok(built), None)
+        }
+        Ok((built, None)) => (Ok(built), Some(hired)),
+        Err(stop) => (Err(stop), Some(hired)),
     }
-    Ok(built)
 }
 
 // Who is at a desk, who has gone home, and how builds end.
@@ -88,7 +93,8 @@ impl<N: Named, C: Ledger> People<N, C> {
         seats: Vec<BuilderSeat>,
         outcomes: &str,
     ) -> Result<People<N, C>, Fail>
-        requires { All (λ s. s.table ≡ N.table) seats.items }
+        requires seats { All (λ s. s.table ≡ N.table) seats.items }
+        requires all { length seats.items ≡ N.origin.builders }
     {
         let outcomes = Outcomes::read(alloc, outcomes)?;
         let clerks = alone(alloc, clerk)?;
@@ -130,17 +136,24 @@ impl<N: Named, C: Ledger> People<N, C> {
         }
     }
 
-    // What the first builder's work is answered, whose builds end as the outcome lines say.
+    // Where a builder who hasn't gone home stands again, behind the others.
+    pub(crate) fn keep(&mut self, hired: Option<Hired<N>>) {
+        if let Some(hired) = hired {
+            let _ = self.builders.push(hired);
+        }
+    }
+
+    // What the last builder's work is answered, whose builds end as the outcome lines say.
     pub(crate) fn work_alone<R: Wait>(
         &mut self,
         rt: &R,
         desk: &Desk<'static, N, C>,
     ) -> Option<Result<u64, WorkStop>> {
+        let last = self.builders.pop()?;
         let mut outcomes = &self.outcomes;
-        match self.builders.first_mut() {
-            Some(first) => Some(work_of(rt, desk, first, &mut outcomes, &self.homes)),
-            None => None,
-        }
+        let (answer, left) = work_of(rt, desk, last, &mut outcomes, &self.homes);
+        self.keep(left);
+        Some(answer)
     }
 
     // The last clerk goes home, with the receipts.

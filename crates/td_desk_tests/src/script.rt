@@ -15,6 +15,7 @@ use std::sync::Wait;
 use std::sync::ledger::Ledger;
 use std::test::Fail;
 use std::thread::Threads;
+use td_builder::Tells;
 use td_desk::{Clerk, Desk, Named};
 use td_journal::{EntryNo, text};
 use td_relation::Archs;
@@ -54,7 +55,7 @@ fn call<N: Named, C: Ledger, R: Wait>(
 ) -> Result<String, Fail> {
     let (word, rest) = line.split_once(' ').unwrap_or((line, ""));
     match word {
-        "undo" => shown(alloc, &desk.undo(rt, clerk, number(rest))),
+        "undo" => shown(alloc, &desk.undo(rt, clerk, number(rest)).answer()),
         "arrive" => arrive(rt, alloc, desk, clerk, rest),
         "sweep" => shown(alloc, &desk.sweep(rt, clerk)),
         _ => take(rt, alloc, desk, clerk, line),

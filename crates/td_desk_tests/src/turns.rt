@@ -12,9 +12,9 @@ use std::sync::ledger::Ledger;
 use std::sync::{Mutex, Wait};
 use std::test::Fail;
 use td_board::BuilderSeat;
-use td_book::{FinishRefusal, Job, StartRefusal};
-use td_builder::{Builds, Floor, Outcomes, WorkStop, work};
-use td_desk::{Clerk, Desk, Hired, Home, Homes, Named};
+use td_book::{FinishRefusal, Job};
+use td_builder::{Builds, Floor, Outcomes, Tells, WorkStop, work};
+use td_desk::{Clerk, Desk, Hired, Home, Homes, Named, Started};
 use td_journal::EntryNo;
 use td_relation::Archs;
 use td_rows::{Key, Outcome, read_key};
@@ -54,7 +54,7 @@ fn undo<N: Named, C: Ledger, R: Wait>(
     clerk: &mut Clerk<C>,
     n: EntryNo,
 ) -> Option<EntryNo> {
-    match desk.undo(rt, clerk, n) {
+    match desk.undo(rt, clerk, n).answer() {
         Ok(()) => Some(n),
         Err(_) => None,
     }
@@ -161,6 +161,20 @@ impl<'d, N: Named, C: Ledger> Builds for Jobs<'d, N, C> {
     }
 }
 
+// What the end of a build is answered here, as the day has it.
+struct TurnsEnd {
+    answer: Result<EntryNo, FinishRefusal>,
+}
+
+impl Tells<Result<EntryNo, FinishRefusal>> for TurnsEnd {
+    ghost tells = { λ end. end.answer };
+
+    fn answer(self) -> Result<EntryNo, FinishRefusal> {
+        let TurnsEnd { answer } = self;
+        answer
+    }
+}
+
 // A desk, at which the clerk makes a call whenever the builder asks for work.
 #[derive(Drop)]
 struct Turns<'d, 't, N: Named, C: Ledger> {
@@ -184,6 +198,10 @@ impl<'d, 't, N: Named, C: Ledger> Floor for Turns<'d, 't, N, C> {
     ghost use Rattle.td_desk.specs.Calls.{IsAtEnd, MayBeReady, MayEnd, MayStart};
 
     type Home = Home<N>;
+
+    type Started = Started<N>;
+
+    type Ended = TurnsEnd;
 
     ghost table = { λ turns. N.table };
 
@@ -212,32 +230,29 @@ impl<'d, 't, N: Named, C: Ledger> Floor for Turns<'d, 't, N, C> {
         self.desk.claim(row, seat)
     }
 
-    fn start<R: Wait>(&self, rt: &R, seat: &BuilderSeat) -> Result<Job, StartRefusal>
+    fn start<R: Wait>(&self, rt: &R, seat: &BuilderSeat) -> Started<N>
         requires { seat.now.table ≡ N.table }
-        ensures job { IfOk result (MayStart N.table N.origin seat.now) }
-        ensures err { IfErr result (λ e. Unit {0}) }
+        ensures job { IfOk result.answer (MayStart N.table N.origin seat.now) }
+        ensures err { IfErr result.answer (λ e. Unit {0}) }
     {
         Floor::start(self.desk, rt, seat)
     }
 
-    fn finish<R: Wait>(
-        &self,
-        rt: &R,
-        seat: &mut BuilderSeat,
-        outcome: Outcome,
-    ) -> Result<EntryNo, FinishRefusal>
+    fn finish<R: Wait>(&self, rt: &R, seat: &mut BuilderSeat, outcome: Outcome) -> TurnsEnd
         requires table { seat.old.table ≡ N.table }
         requires hand { IsHolding seat.old }
-        ensures ok { OnOk result
+        ensures ok { OnOk result.answer
             (IsFinished (MayEnd N.table N.origin) outcome seat.old seat.new) }
-        ensures seat { OnErr result
+        ensures seat { OnErr result.answer
             (IsRefused (λ seat outcome. Unit {0}) outcome seat.old seat.new) }
-        ensures err { IfErr result (λ e. Unit {0}) }
+        ensures err { IfErr result.answer (λ e. Unit {0}) }
     {
         let refuses = self.day.lock(rt).refuses;
-        match Floor::finish(self.desk, rt, seat, outcome) {
-            Ok(_) if refuses => Err(FinishRefusal::Mismatch),
-            answer => answer,
+        match Floor::finish(self.desk, rt, seat, outcome).answer() {
+            Ok(_) if refuses => TurnsEnd {
+                answer: Err(FinishRefusal::Mismatch),
+            },
+            answer => TurnsEnd { answer },
         }
     }
 
@@ -256,22 +271,27 @@ impl<'d, 't, N: Named, C: Ledger> Floor for Turns<'d, 't, N, C> {
     }
 }
 
-// What the builder's work is answered. Where it goes home, it is counted among those who did.
+// What the builder's work is answered, and the builder. One that goes home is counted among those
+// who did.
 fn work_of<N: Named, C: Ledger, R: Wait>(
     rt: &R,
     turns: &Turns<'_, '_, N, C>,
-    hired: &mut Hired<N>,
+    hired: Hired<N>,
     jobs: &mut Jobs<'_, N, C>,
     homes: &Mutex<Homes<N>>,
-) -> Result<u64, WorkStop> {
-    let (built, home) = work(rt, turns, &mut hired.seat, jobs)?;
-    if let Some(home) = home {
-        homes.lock(rt).add(home);
+) -> (Result<u64, WorkStop>, Option<Hired<N>>) {
+    let mut hired = hired;
+    match work(rt, turns, &mut hired.seat, jobs) {
+        Ok((built, Some(home))) => {
+            homes.lock(rt).add(home, hired);
+            (Ok(built), None)
+        }
+        Ok((built, None)) => (Ok(built), Some(hired)),
+        Err(stop) => (Err(stop), Some(hired)),
     }
-    Ok(built)
 }
 
-// What the first builder's work is answered while the last clerk makes these calls.
+// What the last builder's work is answered while the last clerk makes these calls.
 fn work_beside<N: Named, C: Ledger, R: Wait>(
     rt: &R,
     desk: &Desk<'static, N, C>,
@@ -289,7 +309,7 @@ fn work_beside<N: Named, C: Ledger, R: Wait>(
         clerks,
     } = people;
     let alloc = *alloc;
-    let first = builders.first_mut()?;
+    let last = builders.pop()?;
     let clerk = clerks.pop()?;
     let mut jobs = Jobs {
         alloc,
@@ -308,12 +328,15 @@ fn work_beside<N: Named, C: Ledger, R: Wait>(
         told,
         day: Mutex::new(day),
     };
-    let end = work_of(rt, &turns, first, &mut jobs, homes);
+    let (end, left) = work_of(rt, &turns, last, &mut jobs, homes);
     let _ = clerks.push(turns.into_clerk());
+    if let Some(left) = left {
+        let _ = builders.push(left);
+    }
     Some(end)
 }
 
-// What is told of the first builder's work in turn with these calls of the last clerk: of each
+// What is told of the last builder's work in turn with these calls of the last clerk: of each
 // build and of each call, in their order, and what the work is answered.
 pub(crate) fn work_in_turn<N: Named, C: Ledger, R: Wait>(
     rt: &R,

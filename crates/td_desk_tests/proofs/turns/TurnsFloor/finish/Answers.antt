@@ -1,7 +1,8 @@
 -- `Turns::finish`: an end that the desk refused, of which this floor says nothing more.
-use Rattle.std.proofs.Common.{OnErr, Result, Ok, Err, inl, inr}
+use Rattle.std.proofs.Common.{OnErr, Result, Ok, Err, inl, inr, subst, sym, ℕ}
 use Rattle.td_rows.specs.declared.outcome.Outcome.{Outcome}
 use Rattle.td_board.specs.Seats.{BuilderModel}
+use Rattle.td_book.specs.declared.finishing.FinishRefusal.{FinishRefusal}
 use Rattle.td_builder.specs.Floors.{IsRefused}
 use Rattle.td_desk.specs.Calls.{MayBreakOff}
 use Rattle.td_desk_tests.proofs.turns.TurnsFloor.finish.Goals as goal
@@ -20,5 +21,8 @@ on_refusal (Err e) P o a b h = refused_so P o a b h
 
 pub returns-in_default-2-clause-seat : goal.returns-in_default-2-clause-seat
 returns-in_default-2-clause-seat g c =
-    on_refusal c.finish.result (MayBreakOff g.N.Named.table g.N.Named.origin) c.args.outcome
-    c.args.seat.now c.finish.new.seat c.finish.ensures.seat
+    on_refusal c.answer.result (MayBreakOff g.N.Named.table g.N.Named.origin) c.args.outcome
+    c.args.seat.now c.finish.new.seat
+    (subst (λ (r : Result ℕ FinishRefusal). OnErr r (IsRefused
+    (MayBreakOff g.N.Named.table g.N.Named.origin) c.args.outcome c.args.seat.now
+    c.finish.new.seat)) (sym c.answer.ensures) c.finish.ensures.seat)
