@@ -11,7 +11,7 @@ use Rattle.td_script.specs.declared.running.RunFault.TheVariants as fault
 use Rattle.td_script.specs.declared.running.ScriptEnd.{ScriptEnd}
 use Rattle.td_script.specs.Ends.{AreFine, Only, SaysBy}
 use Rattle.td_script.specs.OpeningInside.{IsRefusedBy, Stops}
-use Rattle.td_script.specs.Openings.{AreReadable, Texts, without_journal}
+use Rattle.td_inputs.specs.Inputs.{AreReadable, Texts, without_journal}
 use Rattle.td_script.specs.Telling.{Telling}
 use Rattle.td_script.proofs.OnlyLaws.{stops_run}
 use Rattle.td_script.proofs.WithoutJournal.{readable_without, refused_too}

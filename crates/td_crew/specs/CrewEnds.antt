@@ -14,7 +14,7 @@ use Rattle.td_script.specs.declared.running.RunFault.TheVariants as run
 use Rattle.td_script.specs.declared.running.ScriptEnd.{ScriptEnd}
 use Rattle.td_script.specs.Ends.{AreFine, IsScriptText, MayStop, SaysBy}
 use Rattle.td_script.specs.OpeningInside.{IsRefusedBy, Stops}
-use Rattle.td_script.specs.Openings.{AreReadable, Texts, without_journal}
+use Rattle.td_inputs.specs.Inputs.{AreReadable, Texts, without_journal}
 use Rattle.td_script.specs.Telling.{Telling}
 use Rattle.td_crew.specs.declared.running.CrewFault.{CrewFault}
 use Rattle.td_crew.specs.declared.running.CrewFault.TheVariants.{BadOutcome, Run}

@@ -9,7 +9,7 @@ ghost use Rattle.td_core.specs.Phases.{NoneBuilt};
 ghost use Rattle.td_supply.specs.Supply.{opened, stock_of};
 ghost use Rattle.td_script.specs.Asking.{IsFit, IsToldOf};
 ghost use Rattle.td_script.specs.OpeningInside.{IsJournalFault};
-ghost use Rattle.td_script.specs.Openings.{IsJournalIfGiven};
+ghost use Rattle.td_inputs.specs.Inputs.{IsJournalIfGiven};
 ghost use Rattle.td_script.specs.Settings.{setting_lent};
 ghost use Rattle.td_desk.specs.Calls.{IsOfDesk};
 ghost use Rattle.td_desk.specs.Changes.{changes, still_undone};

@@ -4,7 +4,8 @@ ghost use Rattle.std.specs.Prelude.{◌≡◌, [], true, IsErrOf, option_map, st
 ghost use Rattle.td_builder.specs.OutcomeLines.{FaultOf};
 ghost use Rattle.td_script.specs.Asking.{IsFit, IsToldOf};
 ghost use Rattle.td_script.specs.Ends.{Only, SaysBy};
-ghost use Rattle.td_script.specs.Openings.{AreReadable, texts_of, without_journal};
+ghost use Rattle.td_inputs.specs.Inputs.{AreReadable, without_journal};
+ghost use Rattle.td_script.specs.Openings.{texts_of};
 ghost use Rattle.td_crew.specs.CrewEnds.{AreRead, CrewOnly, CrewSays, IsNoOutcomes, StopsSo};
 ghost use Rattle.td_crew.specs.CrewEnds.{UnreadMayStop, crew_end, outcomes_of, unread_fault};
 ghost use Rattle.td_crew.specs.CrewText.{crew_tells};

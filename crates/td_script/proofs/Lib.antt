@@ -14,6 +14,4 @@ pub mod OnlyLaws
 pub mod WithoutJournal
 pub mod CutLaws
 pub mod StaffLaws
-pub mod StateLaws
-pub mod LackingRows
 pub mod Words

@@ -15,7 +15,7 @@ use Rattle.td_script.specs.Limits.{script_limit}
 use Rattle.td_script.specs.declared.told.Told.{Told as ToldText}
 use Rattle.td_script.specs.Ends.{AreFine, Plays, SaysBy}
 use Rattle.td_script.specs.OpeningInside.{IsRefusedBy, IsUnread, Tells, TellsOrRefuses, of_reading}
-use Rattle.td_script.specs.Openings.{Texts}
+use Rattle.td_inputs.specs.Inputs.{Texts}
 use Rattle.td_script.specs.Telling.{Telling}
 use Rattle.td_script.proofs.OnlyLaws.{IsLong, IsNoText}
 

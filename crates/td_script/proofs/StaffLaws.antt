@@ -15,12 +15,11 @@ use Rattle.td_report.specs.TransitionView.{IsMade}
 use Rattle.td_script.specs.Asking.{IsToldOf, journal_asked, setting_asked}
 use Rattle.td_script.specs.Ends.{IsAnswered}
 use Rattle.td_script.specs.OpeningInside.{IsBegunBy, IsJournalFault, IsToldFor, IsToldFrom}
-use Rattle.td_script.specs.OpeningInside.{IsUntold, of_input}
-use Rattle.td_script.specs.Openings.{IsJournalIfGiven}
+use Rattle.td_script.specs.OpeningInside.{IsUntold, of_journal}
+use Rattle.td_inputs.specs.Inputs.{IsJournalIfGiven}
 use Rattle.td_script.specs.Reporting.{made, report_by}
 use Rattle.td_script.specs.Settings.{IsLentTo, setting_lent}
 use Rattle.td_script.specs.Telling.{Telling}
-use Rattle.td_script.specs.declared.input_fault.InputFault.TheVariants as fault
 use Rattle.td_script.specs.declared.running.RunFault.{RunFault}
 use Rattle.td_script.specs.declared.running.RunFault.TheVariants as RunFaults
 use Rattle.td_script.specs.declared.staff.Asked.{Asked}
@@ -74,7 +73,7 @@ told_begun asked table builders (Err e) r begun fault only is =
 
 -- the fault of a journal, as one of a run
 journal_untold : (rows : Table) (given : Option (List ℕ)) (e : ReadError)
-    → IsJournalFault rows given e → IsUntold rows given (of_input (fault.Journal e))
+    → IsJournalFault rows given e → IsUntold rows given (of_journal e)
 journal_untold rows given journal.BadHeader h = h
 journal_untold rows given (journal.BadLine n) h = h
 journal_untold rows given (journal.Unlawful n) h = h
@@ -90,12 +89,12 @@ pub record IsRunOf (May : Telling) (asked : Asked) (r : Result Told RunFault) : 
 
 pub run_of : (May : Telling) (asked : Asked) (told : Result Told ReadError)
     (r : Result Told RunFault) → IsToldOf May asked told → IfOk told (λ t. r ≡ Ok t)
-    → IfErr told (λ e. r ≡ Err (of_input (fault.Journal e))) → IsRunOf May asked r
+    → IfErr told (λ e. r ≡ Err (of_journal e)) → IsRunOf May asked r
 run_of May asked (Ok t) r is same other =
     subst (IsRunOf May asked) (sym same) (record { told = is.told; refused = tt; only = tt })
 run_of May asked (Err e) r is same other =
     subst (IsRunOf May asked) (sym other) (record {
       told = tt;
       refused = journal_untold asked.rows (journal_asked asked) e is.fault;
-      only = λ given. ap (λ (y : ReadError). of_input (fault.Journal y)) (is.only given);
+      only = λ given. ap (λ (y : ReadError). of_journal y) (is.only given);
     })

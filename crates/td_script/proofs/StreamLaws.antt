@@ -9,7 +9,7 @@ use Rattle.td_script.specs.declared.running.RunFault.{RunFault}
 use Rattle.td_script.specs.declared.running.RunFault.TheVariants.{Read, Write}
 use Rattle.td_script.specs.declared.told.Told.{Told as ToldText}
 use Rattle.td_script.specs.OpeningInside.{IsUnread, TellsOrRefuses, of_reading}
-use Rattle.td_script.specs.Openings.{Texts}
+use Rattle.td_inputs.specs.Inputs.{Texts}
 use Rattle.td_script.specs.Telling.{Telling}
 
 failed_read : (f : TextFault) → Read ≡ of_reading f → f ≡ text.CannotRead

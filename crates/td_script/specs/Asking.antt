@@ -7,7 +7,7 @@ use Rattle.td_journal.specs.declared.journal_fault.ReadError.{ReadError}
 use Rattle.td_journal.specs.declared.journal_fault.ReadError.TheVariants.{NoMemory}
 use Rattle.td_report.specs.TransitionView.{IsMade}
 use Rattle.td_script.specs.OpeningInside.{IsJournalFault, IsToldFrom}
-use Rattle.td_script.specs.Openings.{IsJournalIfGiven}
+use Rattle.td_inputs.specs.Inputs.{IsJournalIfGiven}
 use Rattle.td_script.specs.Replies.{Setting}
 use Rattle.td_script.specs.Reporting.{report_by}
 use Rattle.td_script.specs.Settings.{setting_lent}

@@ -9,8 +9,9 @@ use Rattle.td_script.specs.declared.running.RunFault.TheVariants.{Input, Read, T
 use Rattle.td_script.specs.declared.running.RunFault.TheVariants.{Write, NoMemory}
 use Rattle.td_script.specs.declared.running.ScriptEnd.{ScriptEnd}
 use Rattle.td_script.specs.Limits.{script_limit}
-use Rattle.td_script.specs.declared.input_fault.InputFault.TheVariants as fault
-use Rattle.td_script.specs.Openings.{AreReadable, IsPatternRefused, IsRefused, IsSet, Texts}
+use Rattle.td_inputs.specs.declared.form_fault.FormFault.TheVariants as fault
+use Rattle.td_inputs.specs.Inputs.{AreReadable, IsPatternRefused, IsRefused, Texts}
+use Rattle.td_script.specs.Openings.{IsSet}
 use Rattle.td_script.specs.Replies.{Setting}
 use Rattle.td_script.specs.Script.{script}
 use Rattle.td_script.specs.Telling.{Telling}
@@ -58,7 +59,7 @@ SaysBy May x known old new (Err Write) =
     Plays May x known (λ text refused. AppendsPrefix old new text)
 SaysBy May x known old new (Err NoMemory) = Keeps old new
 
--- the same where a clerk alone answers it
+-- what an end says if a clerk alone answers the script
 abbrev pub Says : Texts → Option (List ℕ) → Option (List ℕ) → Option (List ℕ)
     → Result ScriptEnd RunFault → Type 0
 Says x known old new r = SaysBy IsAnswered x known old new r

@@ -2,7 +2,6 @@
 pub mod Answering
 pub mod Asking
 pub mod Ends
-pub mod Faults
 pub mod OpeningInside
 pub mod Openings
 pub mod Reading
@@ -16,4 +15,3 @@ pub mod Settings
 pub mod Telling
 pub mod Cutting
 pub mod Limits
-pub mod Lacking

@@ -5,7 +5,7 @@ ghost use Rattle.td_supply.specs.Supply.{opened as opened_stock, stock_of};
 ghost use Rattle.td_core.specs.Phases.{NoneBuilt};
 ghost use Rattle.td_indices.specs.Supplying.{supply_of};
 ghost use Rattle.td_script.specs.OpeningInside.{IsBegunBy, IsJournalFault};
-ghost use Rattle.td_script.specs.Openings.{IsJournalIfGiven};
+ghost use Rattle.td_inputs.specs.Inputs.{IsJournalIfGiven};
 
 use std::alloc::{AllocError, Global};
 use td_board::{Board, DeskSeat};
@@ -46,7 +46,7 @@ fn begin<'a>(
     }
 }
 
-/// The same, where what an archive has is on offer.
+/// The book over these rows, if what an archive has is on offer.
 pub fn begin_over<'a>(
     alloc: Global,
     board: &Board,

@@ -13,9 +13,7 @@ mod beginning;
 mod commanding;
 mod dispatch;
 mod files;
-mod input_fault;
 mod inputs;
-mod lacking;
 mod laws;
 mod lent;
 mod line;
@@ -23,7 +21,6 @@ mod opening;
 mod replying;
 mod reports;
 mod request;
-mod role;
 mod running;
 mod staff;
 mod told;
@@ -32,18 +29,15 @@ mod writing;
 
 pub use answering::{show_entry, show_journal, show_report, show_row};
 pub use dispatch::answer;
-pub use input_fault::InputFault;
 pub use inputs::Inputs;
 pub use laws::cut_scripts_tell_the_same;
 pub use lent::Lent;
 pub use line::{Said, asked_lines_are_requests, read_line};
-pub use opening::put_state_over;
 pub use replying::{
     put_arrival, put_arrival_refusal, put_command, put_command_refusal, put_sweep, put_undo,
 };
 pub use reports::Reports;
 pub use request::{Request, read_request, request_lines_are_exact};
-pub use role::Role;
 pub use running::{RunFault, SCRIPT_LIMIT, ScriptEnd, judge_files, run_script, run_with};
 pub use staff::{Alone, Asked, Staff, tell_alone};
 pub use told::{Told, tell};

@@ -1,114 +1,85 @@
 //! What is told of a script over the texts of files.
-ghost use Rattle.std.specs.Prelude.{◌≡◌, ◌<◌, ◌^◌, ◌-◌, ◌∷◌, [], None, Some, IfOk, IfErr, IfSome};
-ghost use Rattle.std.specs.Prelude.{Ok, Err, length};
-ghost use Rattle.td_text.specs.Lines.{lines_of};
-ghost use Rattle.td_relation.specs.TableFile.{IsTable};
-ghost use Rattle.td_relation.specs.TableView.{table};
+ghost use Rattle.std.specs.Prelude.{◌≡◌, ◌<◌, ◌^◌, ◌-◌, ◌∷◌, ℕ, [], List, None, Option, Some, IfOk};
+ghost use Rattle.std.specs.Prelude.{IfErr, IfSome, Ok, Err, length};
 ghost use Rattle.td_core.specs.Phases.{NoneBuilt};
 ghost use Rattle.td_indices.specs.Supplying.{supply_of};
+ghost use Rattle.td_inputs.specs.Inputs.{AreReadable, AreRowsOf, IsArchiveOf, IsJournalIfGiven};
+ghost use Rattle.td_inputs.specs.Inputs.{IsReadableOver};
+ghost use Rattle.td_inputs.specs.Opened.{AreGivenRows, IsOpened, texts_of as texts_opened};
+ghost use Rattle.td_query.specs.Tracking.{IsTracker, tracking};
 ghost use Rattle.td_report.specs.TransitionView.{IsMade};
 ghost use Rattle.td_script.specs.Asking.{CanAnswer};
 ghost use Rattle.td_script.specs.Reporting.{report_by};
 ghost use Rattle.td_script.specs.Settings.{setting_lent};
-ghost use Rattle.td_script.specs.Openings.{AreReadable, AreRowsOf, IsArchiveOf, IsJournalIfGiven};
-ghost use Rattle.td_script.specs.Openings.{IsReadableOver, texts_lent, texts_of};
-ghost use Rattle.td_query.specs.Tracking.{IsTracker, Tracking, tracking};
-ghost use Rattle.td_rows.specs.StateFile.{IsStateFile};
-ghost use Rattle.td_rows.specs.Table.{Table};
-ghost use Rattle.td_script.specs.OpeningInside.{AreReadableWith, CanReplace, Stops, IsRefusedBy};
-ghost use Rattle.td_script.specs.OpeningInside.{IsPutOver, IsRefusedIn, IsReplacedIn, IsToldFrom};
-ghost use Rattle.td_script.specs.OpeningInside.{IsUntold, TellsOrRefuses, of_input};
+ghost use Rattle.td_script.specs.Openings.{texts_lent, texts_of};
+ghost use Rattle.td_script.specs.OpeningInside.{IsToldFrom, IsUntold, Stops, TellsOrRefuses};
+ghost use Rattle.td_script.specs.OpeningInside.{of_journal, of_opening, opening_texts};
 
 use crate::files::Files;
-use crate::input_fault::InputFault;
 use crate::inputs::Inputs;
-use crate::lacking::first_lacking;
 use crate::running::RunFault;
 use crate::staff::{Asked, Staff};
 use crate::told::Told;
 use std::alloc::{AllocError, Global};
 use std::thread::Threads;
-use td_indices::{Archive, ArchiveFault};
+use td_indices::{Archive, IndexText};
+use td_inputs::{FormFault, GivenTracker, InputTexts, OpenFault, Opened, open_texts};
 use td_journal::ReadError;
-use td_query::{Tracker, TrackerFault};
-use td_relation::{Archs, ArchsFault};
 use td_report::Transition;
-use td_rows::{Rows, StateFault, read_state};
+use td_rows::Rows;
 
-// Why a run stops where a text is refused for this. Want of memory is no fault of the text.
-fn fault_of(fault: InputFault) -> RunFault
-    ensures { result ≡ of_input fault }
+// Why a run stops where its texts aren't opened for this.
+fn fault_of(fault: OpenFault) -> RunFault
+    ensures { result ≡ of_opening fault }
 {
     match fault {
-        InputFault::Table(ArchsFault::NoMemory)
-        | InputFault::Archive(ArchiveFault::NoMemory)
-        | InputFault::State(StateFault::NoMemory)
-        | InputFault::Tracker(TrackerFault::NoMemory)
-        | InputFault::Journal(ReadError::NoMemory) => RunFault::NoMemory,
-        fault => RunFault::Input(fault),
-    }
-}
-
-// The rows with those that were read of the text in the place of the ones of their keys.
-fn put_over(mut rows: Rows, text: &str, read: Result<Rows, StateFault>) -> Result<Rows, RunFault>
-    requires { IfOk read (IsStateFile (lines_of text.now)) }
-    ensures put { IfOk read (λ given. IsPutOver rows text.now given result) }
-    ensures refused { IfErr read (λ fault. result ≡ Err (of_input (InputFault.State fault))) }
-{
-    match read {
-        Ok(given) => match rows.overlay(given) {
-            Ok(()) => Ok(rows),
-            Err(_) => {
-                let number = first_lacking(&rows, text);
-                Err(RunFault::Input(InputFault::NoSuchRow(number)))
-            }
-        },
-        Err(fault) => Err(fault_of(InputFault::State(fault))),
-    }
-}
-
-/// The rows with those of a state file in the place of the ones of their keys.
-pub fn put_state_over(alloc: Global, rows: Rows, text: &str) -> Result<Rows, RunFault>
-    requires { NoneBuilt rows }
-    ensures rows { IfOk result (IsReplacedIn rows text.now) }
-    ensures idle { IfOk result NoneBuilt }
-    ensures refused { IfErr result (IsRefusedIn rows text.now) }
-    ensures only { IfErr result (λ fault. CanReplace rows text.now → fault ≡ RunFault.NoMemory) }
-{
-    let read = read_state(alloc, text);
-    put_over(rows, text, read)
-}
-
-// The rows from which a script starts.
-fn rows_of(alloc: Global, archive: &Archive<'_, '_>, files: &Files<'_>) -> Result<Rows, RunFault>
-    requires { IsArchiveOf (texts_lent files.now) archive.now }
-    ensures rows { IfOk result (AreRowsOf archive.now (texts_lent files.now).state) }
-    ensures idle { IfOk result NoneBuilt }
-    ensures refused { IfErr result (IsRefusedBy (texts_lent files.now)) }
-    ensures only { IfErr result (λ fault.
-        (t : Table) → AreRowsOf archive.now (texts_lent files.now).state t
-        → fault ≡ RunFault.NoMemory) }
-{
-    let rows = match archive.opening_rows() {
-        Ok(rows) => rows,
-        Err(AllocError) => return Err(RunFault::NoMemory),
-    };
-    // (`len` says that the keys of the rows rise)
-    let _rising = rows.len();
-    match files.state {
-        Some(text) => put_state_over(alloc, rows, text),
-        None => Ok(rows),
+        OpenFault::Refused(fault) => RunFault::Input(fault),
+        OpenFault::NoMemory => RunFault::NoMemory,
     }
 }
 
 // What was told, or the fault of the journal.
 fn told_or_refused(told: Result<Told, ReadError>) -> Result<Told, RunFault>
     ensures told { IfOk told (λ t. result ≡ Ok t) }
-    ensures refused { IfErr told (λ fault. result ≡ Err (of_input (InputFault.Journal fault))) }
+    ensures refused { IfErr told (λ fault. result ≡ Err (of_journal fault)) }
 {
     match told {
         Ok(told) => Ok(told),
-        Err(fault) => Err(fault_of(InputFault::Journal(fault))),
+        Err(ReadError::NoMemory) => Err(RunFault::NoMemory),
+        Err(fault) => Err(RunFault::Input(FormFault::Journal(fault))),
+    }
+}
+
+// The texts that are opened.
+fn texts_in<'i>(rt: &(impl Threads + Sync), alloc: Global, files: Files<'i>) -> InputTexts<'i>
+    ensures { texts_opened result ≡ opening_texts (texts_lent files.entry) }
+{
+    let packages = IndexText::read(rt, alloc, files.packages);
+    let sources = IndexText::read(rt, alloc, files.sources);
+    InputTexts {
+        archs: files.archs,
+        packages,
+        sources,
+        state: files.state,
+        tracker: files.tracker,
+    }
+}
+
+// The rows from which a script starts: those that are given, or those with which the archive opens.
+fn rows_of(archive: &Archive<'_, '_>, given: Option<Rows>) -> Result<Rows, AllocError>
+    ensures rows { (state : Option (List ℕ)) → AreGivenRows archive.now state given
+        → IfOk result (AreRowsOf archive.now state) }
+    ensures idle { (state : Option (List ℕ)) → AreGivenRows archive.now state given
+        → IfOk result NoneBuilt }
+{
+    match given {
+        Some(rows) => Ok(rows),
+        None => {
+            let rows = archive.opening_rows()?;
+            // (`len` says that the keys of the rows rise)
+            let _rising = rows.len();
+            Ok(rows)
+        }
     }
 }
 
@@ -157,21 +128,20 @@ impl<S: Staff, F: Fn(Asked) -> Result<Told, ReadError>> Run<'_, S, F> {
         told_or_refused((self.tell)(asked))
     }
 
-    // What is told from these rows with the reports of the tracker of a text.
+    // What is told from these rows with the reports of a tracker.
     fn tell_tracked(
         &self,
         rt: &(impl Threads + Sync),
         archive: &Archive<'_, '_>,
         rows: Rows,
-        tracker: &Tracker<'_>,
-        text: &str,
+        given: &GivenTracker<'_>,
     ) -> Result<Told, RunFault>
         requires answers { CanAnswer (S.tells self.now.staff.now) (F.pre self.now.tell.now)
             (F.post self.now.tell.now) }
         requires archive { IsArchiveOf (texts_lent self.now.files) archive.now }
         requires rows { AreRowsOf archive.now (texts_lent self.now.files).state rows }
-        requires given { (texts_lent self.now.files).tracker ≡ Some text.now }
-        requires tracker { IsTracker text.now (tracking tracker.now) }
+        requires given { (texts_lent self.now.files).tracker ≡ Some given.now.text.now }
+        requires tracker { IsTracker given.now.text.now (tracking given.now.tracker) }
         requires idle { NoneBuilt rows }
         ensures tells { TellsOrRefuses (S.tells self.now.staff.now) (texts_lent self.now.files)
             self.now.script.now result }
@@ -179,44 +149,13 @@ impl<S: Staff, F: Fn(Asked) -> Result<Told, ReadError>> Run<'_, S, F> {
             IsJournalIfGiven rows (texts_lent self.now.files).journal
             → fault ≡ RunFault.NoMemory) }
     {
-        match Transition::of(rt, self.alloc, archive, tracker, text) {
+        match Transition::of(rt, self.alloc, archive, &given.tracker, given.text) {
             Ok(transition) => {
                 let told = self.tell_from(archive, rows, Some(&transition));
                 drop(transition);
                 told
             }
             Err(AllocError) => Err(RunFault::NoMemory),
-        }
-    }
-
-    // What is told from these rows, by what the text of a tracker is read as.
-    fn tell_with_tracker(
-        &self,
-        rt: &(impl Threads + Sync),
-        archive: &Archive<'_, '_>,
-        rows: Rows,
-        text: &str,
-    ) -> Result<Told, RunFault>
-        requires answers { CanAnswer (S.tells self.now.staff.now) (F.pre self.now.tell.now)
-            (F.post self.now.tell.now) }
-        requires archive { IsArchiveOf (texts_lent self.now.files) archive.now }
-        requires rows { AreRowsOf archive.now (texts_lent self.now.files).state rows }
-        requires tracker { (texts_lent self.now.files).tracker ≡ Some text.now }
-        requires idle { NoneBuilt rows }
-        ensures tells { TellsOrRefuses (S.tells self.now.staff.now) (texts_lent self.now.files)
-            self.now.script.now result }
-        ensures only { IfErr result (λ fault.
-            (t : Tracking) → IsTracker text.now t
-            → IsJournalIfGiven rows (texts_lent self.now.files).journal
-            → Stops (texts_lent self.now.files) fault) }
-    {
-        match Tracker::read(self.alloc, text) {
-            Ok(tracker) => {
-                let told = self.tell_tracked(rt, archive, rows, &tracker, text);
-                drop(tracker);
-                told
-            }
-            Err(fault) => Err(fault_of(InputFault::Tracker(fault))),
         }
     }
 
@@ -237,63 +176,37 @@ impl<S: Staff, F: Fn(Asked) -> Result<Told, ReadError>> Run<'_, S, F> {
         self.tell_from(archive, rows, None)
     }
 
-    // What is told over an archive.
-    fn tell_over_archive(
+    // What is told over what was opened of the texts.
+    fn tell_opened(
         &self,
         rt: &(impl Threads + Sync),
-        archive: &Archive<'_, '_>,
+        opened: Opened<'_, '_, '_, '_, '_>,
     ) -> Result<Told, RunFault>
         requires answers { CanAnswer (S.tells self.now.staff.now) (F.pre self.now.tell.now)
             (F.post self.now.tell.now) }
-        requires archive { IsArchiveOf (texts_lent self.now.files) archive.now }
+        requires opened { IsOpened (opening_texts (texts_lent self.now.files)) opened }
         ensures tells { TellsOrRefuses (S.tells self.now.staff.now) (texts_lent self.now.files)
             self.now.script.now result }
         ensures only { IfErr result (λ fault.
-            IsReadableOver archive.now (texts_lent self.now.files)
-            → Stops (texts_lent self.now.files) fault) }
+            AreReadable (texts_lent self.now.files) → Stops (texts_lent self.now.files) fault) }
     {
-        let rows = match rows_of(self.alloc, archive, &self.files) {
+        let Opened {
+            archive,
+            rows,
+            tracker,
+        } = opened;
+        let rows = match rows_of(archive, rows) {
             Ok(rows) => rows,
-            Err(fault) => return Err(fault),
+            Err(AllocError) => return Err(RunFault::NoMemory),
         };
-        match self.files.tracker {
-            Some(text) => self.tell_with_tracker(rt, archive, rows, text),
+        match tracker {
+            Some(given) => self.tell_tracked(rt, archive, rows, given),
             None => self.tell_untracked(archive, rows),
         }
     }
 
-    // What is told over the indices with a table of architectures.
-    fn tell_over_table(
-        &self,
-        rt: &(impl Threads + Sync),
-        archs: &Archs<'_>,
-    ) -> Result<Told, RunFault>
-        requires answers { CanAnswer (S.tells self.now.staff.now) (F.pre self.now.tell.now)
-            (F.post self.now.tell.now) }
-        requires table { IsTable (lines_of (texts_lent self.now.files).archs) (table archs.now) }
-        ensures tells { TellsOrRefuses (S.tells self.now.staff.now) (texts_lent self.now.files)
-            self.now.script.now result }
-        ensures only { IfErr result (λ fault.
-            AreReadableWith (table archs.now) (texts_lent self.now.files)
-            → Stops (texts_lent self.now.files) fault) }
-    {
-        let Files {
-            packages,
-            sources,
-            ..
-        } = self.files;
-        match Archive::read(rt, self.alloc, packages, sources, archs) {
-            Ok(archive) => {
-                let told = self.tell_over_archive(rt, &archive);
-                drop(archive);
-                told
-            }
-            Err(fault) => Err(fault_of(InputFault::Archive(fault))),
-        }
-    }
-
     /// What is told of the script. The texts of the files are judged first.
-    pub fn tell_all(&self, rt: &(impl Threads + Sync)) -> Result<Told, RunFault>
+    pub fn tell_all<R: Threads + Sync>(&self, rt: &R) -> Result<Told, RunFault>
         requires answers { CanAnswer (S.tells self.now.staff.now) (F.pre self.now.tell.now)
             (F.post self.now.tell.now) }
         ensures tells { TellsOrRefuses (S.tells self.now.staff.now) (texts_lent self.now.files)
@@ -301,14 +214,26 @@ impl<S: Staff, F: Fn(Asked) -> Result<Told, ReadError>> Run<'_, S, F> {
         ensures only { IfErr result (λ fault.
             AreReadable (texts_lent self.now.files) → Stops (texts_lent self.now.files) fault) }
     {
-        match Archs::read(self.alloc, self.files.archs) {
-            Ok(archs) => self.tell_over_table(rt, &archs),
-            Err(fault) => Err(fault_of(InputFault::Table(fault))),
+        let texts = texts_in(rt, self.alloc, self.files);
+        let tell = move |opened: Opened| -> Result<Told, RunFault>
+            requires answers { CanAnswer (S.tells self.now.staff.now) (F.pre self.now.tell.now)
+                (F.post self.now.tell.now) }
+            requires opened { IsOpened (opening_texts (texts_lent self.now.files)) opened }
+            ensures tells { TellsOrRefuses (S.tells self.entry.now.staff.now)
+                (texts_lent self.entry.now.files) self.entry.now.script.now result }
+            ensures only { IfErr result (λ fault.
+                AreReadable (texts_lent self.entry.now.files)
+                → Stops (texts_lent self.entry.now.files) fault) }
+        { self.tell_opened(rt, opened) };
+        let told = open_texts(rt, self.alloc, texts, tell);
+        match told {
+            Ok(told) => told,
+            Err(fault) => Err(fault_of(fault)),
         }
     }
 }
 
-/// The same over the texts of inputs.
+/// What is told of a script over the texts of inputs.
 pub fn tell_over<S: Staff, F: Fn(Asked) -> Result<Told, ReadError>>(
     rt: &(impl Threads + Sync),
     alloc: Global,

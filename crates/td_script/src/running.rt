@@ -7,10 +7,10 @@ ghost use Rattle.td_script.specs.Limits.{script_limit};
 ghost use Rattle.td_script.specs.Ends.{AreFine, Only, Says, SaysBy};
 ghost use Rattle.td_script.specs.OpeningInside.{IsRefusedBy, IsUnread, Stops, TellsOrRefuses};
 ghost use Rattle.td_script.specs.OpeningInside.{of_reading};
-ghost use Rattle.td_script.specs.Openings.{AreReadable, texts_lent, texts_of, without_journal};
+ghost use Rattle.td_inputs.specs.Inputs.{AreReadable, without_journal};
+ghost use Rattle.td_script.specs.Openings.{texts_lent, texts_of};
 
 use crate::files::Files;
-use crate::input_fault::InputFault;
 use crate::inputs::Inputs;
 use crate::opening::{Run, tell_over};
 use crate::staff::{Alone, Asked, Staff, tell_alone};
@@ -18,6 +18,7 @@ use crate::told::Told;
 use std::alloc::Global;
 use std::thread::Threads;
 use td_bytes::{Reader, TextFault, Writer, read_text, write_whole};
+use td_inputs::FormFault;
 use td_journal::ReadError;
 
 /// The longest script, in bytes.
@@ -34,7 +35,7 @@ pub struct ScriptEnd {
 #[derive(Clone, Copy, Debug, PartialEq, Eq, Drop)]
 pub enum RunFault {
     /// The text of a file is refused.
-    Input(InputFault),
+    Input(FormFault),
     /// The script can't be read.
     Read,
     /// The script is longer than the limit.
@@ -179,7 +180,7 @@ pub fn run_with<S: Staff, F: Fn(Asked) -> Result<Told, ReadError>, R: Reader, W:
     }
 }
 
-/// The same in a world without builders.
+/// Answers the script that the reader has, in a world without builders.
 pub fn run_script<R: Reader, W: Writer>(
     rt: &(impl Threads + Sync),
     alloc: Global,

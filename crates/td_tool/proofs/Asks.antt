@@ -18,7 +18,7 @@ use Rattle.td_words.specs.declared.request.WordsFault.{WordsFault}
 use Rattle.td_words.specs.declared.request.WordsFault.TheVariants as words_fault
 use Rattle.td_tool.specs.declared.ending.Ending.{Ending}
 use Rattle.td_tool.specs.declared.ending.Ending.TheVariants.{NoMemory}
-use Rattle.td_script.specs.declared.role.Role.{Role}
+use Rattle.td_inputs.specs.declared.role.Role.{Role}
 use Rattle.td_tool.specs.Checks.{Checks, files_of}
 use Rattle.td_tool.specs.Ends.{Ends}
 use Rattle.td_tool.specs.Explained.{archive_paths, known_at, known_input, run_paths}

@@ -1,119 +1,99 @@
--- What is counted of three texts, and how a check of them ends.
-use Rattle.std.proofs.Common.{◌≡◌, ℕ, List, Result, Ok, Err, IfOk, IfErr, IsOkAnd}
-use Rattle.std.proofs.Common.{MatchResult, refl, sym, ap, subst}
-use Rattle.std.proofs.lemmas.Result.{IfOk-weaker, IfErr-weaker}
-use Rattle.td_text.specs.Lines.{lines_of}
-use Rattle.td_relation.specs.Arch.{ArchWords}
-use Rattle.td_relation.specs.TableFile.{IsTable}
-use Rattle.td_relation.specs.TableFile as table_file
-use Rattle.td_relation.specs.declared.archs.ArchsFault.{ArchsFault}
+-- What is counted of three texts.
+use Rattle.std.proofs.Common.{◌≡◌, ℕ, List, None, Ok, Err, ap, refl, sym, subst}
+use Rattle.std.proofs.Common.{◌∙◌}
 use Rattle.td_relation.specs.declared.archs.ArchsFault.TheVariants as table
-use Rattle.td_indices.specs.Archive.{Contents, IsArchive}
-use Rattle.td_indices.specs.Archive as archive_file
-use Rattle.td_indices.specs.declared.archive_fault.ArchiveFault.{ArchiveFault}
+use Rattle.td_indices.specs.Archive.{Contents}
 use Rattle.td_indices.specs.declared.archive_fault.ArchiveFault.TheVariants as archive
-use Rattle.td_script.specs.declared.input_fault.InputFault.TheVariants as form
+use Rattle.td_inputs.specs.declared.form_fault.FormFault.TheVariants as form
+use Rattle.td_inputs.specs.declared.open_fault.OpenFault.{OpenFault}
+use Rattle.td_inputs.specs.declared.open_fault.OpenFault.TheVariants.{Refused}
+use Rattle.td_inputs.specs.declared.open_fault.OpenFault.TheVariants as opening
+use Rattle.td_inputs.specs.declared.opened.Opened.{Opened}
+use Rattle.td_inputs.specs.Inputs as inputs
+use Rattle.td_inputs.specs.Inputs.{AreReadable, Texts}
+use Rattle.td_inputs.specs.Opened.{IsOpened, IsPatternOf, IsUnopened, MayFail, OrMemory}
+use Rattle.td_inputs.proofs.OpeningLaws.{rows_there}
 use Rattle.td_tool.specs.declared.checking.Counts.{Counts}
 use Rattle.td_tool.specs.declared.ending.Ending.{Ending}
-use Rattle.td_tool.specs.Ending.{ending_of_form}
+use Rattle.td_tool.specs.declared.ending.Ending.TheVariants.{NoMemory}
+use Rattle.td_tool.specs.Ending.{ending_of_opening}
 use Rattle.td_tool.specs.Counted.{IsArchiveOf}
-use Rattle.td_tool.specs.CheckInside.{AreCountsOf, AreCountsWith, IsRefusedWith, IsCountedWith}
-use Rattle.td_tool.specs.CheckInside.{IsNoArchive, IsCounted}
+use Rattle.td_tool.specs.CheckInside.{AreCountsOf, IsCounted, IsNoArchive, texts_checked}
 
--- ---- two texts, with a table
+to_opened : (a p s : List ℕ) (c : Contents) → IsArchiveOf a p s c
+    → inputs.IsArchiveOf (texts_checked a p s) c
+to_opened a p s c is = record { is_table = is.is_table; is_archive = is.is_archive }
 
-counts_known : (t : List ArchWords) (p s : List ℕ) (c : Contents) (counted : Result Counts Ending)
-    → IsArchive t (lines_of p) (lines_of s) c
-    → ((a : Contents) → IsArchive t (lines_of p) (lines_of s) a → c ≡ a)
-    → IsOkAnd counted (AreCountsOf c) → IsCountedWith t p s counted
-counts_known t p s c (Ok n) is only counts =
-    record {
-      found = (c, is, counts);
-      only = λ a other. subst (λ x. AreCountsOf x n) (only a other) counts;
-      refused = tt;
-    }
-counts_known t p s c (Err e) is only counts = absurd counts
-
-pub counted_with : (t : List ArchWords) (p s : List ℕ) (r : Result Contents ArchiveFault)
-    (counted : Result Counts Ending)
-    → IfOk r (IsArchive t (lines_of p) (lines_of s))
-    → ((a : Contents) → IsArchive t (lines_of p) (lines_of s) a
-    → MatchResult r (λ x. x ≡ a) (λ e. e ≡ archive.NoMemory))
-    → IfErr r (archive_file.FaultOf t (lines_of p) (lines_of s))
-    → IfOk r (λ c. IsOkAnd counted (AreCountsOf c))
-    → IfErr r (λ e. counted ≡ Err (ending_of_form (form.Archive e))) → IsCountedWith t p s counted
-counted_with t p s (Ok c) counted is only bad counts refused =
-    counts_known t p s c counted is only counts
-counted_with t p s (Err e) counted is only bad counts refused =
-    subst (IsCountedWith t p s) (sym refused)
-    (record {
-      found = tt;
-      only = λ a other. ap (λ e. ending_of_form (form.Archive e)) (only a other);
-      refused = (e, bad, refl);
-    })
-
--- ---- three texts
-
-no_archive : (a p s : List ℕ) (t : List ArchWords) (e : ArchiveFault) → IsTable (lines_of a) t
-    → archive_file.FaultOf t (lines_of p) (lines_of s) e
-    → IsNoArchive a p s (ending_of_form (form.Archive e))
-no_archive a p s t (archive.Stanza f e) is bad = (refl, (t, is, bad))
-no_archive a p s t (archive.MissingField f n field) is bad = (refl, (t, is, bad))
-no_archive a p s t (archive.BadVersion f n field) is bad = (refl, (t, is, bad))
-no_archive a p s t (archive.BadRelation f n field) is bad = (refl, (t, is, bad))
-no_archive a p s t archive.TooManyRows is bad = (refl, (t, is, bad))
-no_archive a p s t archive.NoMemory is bad = tt
-
-no_table : (a p s : List ℕ) (e : ArchsFault) → table_file.FaultOf (lines_of a) e
-    → ((t : List ArchWords) → IsTable (lines_of a) t → e ≡ table.NoMemory)
-    → IsCounted a p s (Err (ending_of_form (form.Table e)))
-no_table a p s (table.BadLine n) bad only =
-    record {
-      found = tt;
-      only = λ c is. ap (λ e. ending_of_form (form.Table e)) (only c.table is.is_table);
-      refused = (refl, bad);
-    }
-no_table a p s (table.Twice n) bad only =
-    record {
-      found = tt;
-      only = λ c is. ap (λ e. ending_of_form (form.Table e)) (only c.table is.is_table);
-      refused = (refl, bad);
-    }
-no_table a p s table.TooMany bad only =
-    record {
-      found = tt;
-      only = λ c is. ap (λ e. ending_of_form (form.Table e)) (only c.table is.is_table);
-      refused = (refl, bad);
-    }
-no_table a p s table.NoMemory bad only = record { found = tt; only = λ c is. refl; refused = tt }
-
--- the archive of three texts
-pub archive_of : (a p s : List ℕ) (t : List ArchWords) (c : Contents) → IsTable (lines_of a) t
-    → IsArchive t (lines_of p) (lines_of s) c → IsArchiveOf a p s c
-archive_of a p s t c is_table is = record {
-  is_table = subst (IsTable (lines_of a)) (sym is.same_table) is_table;
-  is_archive = subst (λ x. IsArchive x (lines_of p) (lines_of s) c) (sym is.same_table) is;
+counted : (a p s : List ℕ) (n : Counts) (o : Opened) → IsOpened (texts_checked a p s) o
+    → AreCountsOf o.archive.now n → IsCounted a p s (Ok n)
+counted a p s n o is counts = record {
+  found = (
+    o.archive.now,
+    record { is_table = is.archive.is_table; is_archive = is.archive.is_archive },
+    counts,
+  );
+  only = λ c whole. subst (λ d. AreCountsOf d n) (is.only c (to_opened a p s c whole)) counts;
+  refused = tt;
 }
 
-pub counted_in : {A : Type 0} (view : A → List ArchWords) (a p s : List ℕ) (r : Result A ArchsFault)
-    (counted : Result Counts Ending)
-    → IfOk r (λ x. IsTable (lines_of a) (view x))
-    → ((t : List ArchWords) → IsTable (lines_of a) t
-    → MatchResult r (λ x. view x ≡ t) (λ e. e ≡ table.NoMemory))
-    → IfErr r (table_file.FaultOf (lines_of a))
-    → IfOk r (λ x. IsCountedWith (view x) p s counted)
-    → IfErr r (λ e. counted ≡ Err (ending_of_form (form.Table e))) → IsCounted a p s counted
-counted_in view a p s (Ok x) counted is only bad with refused = record {
-  found =
-      IfOk-weaker counted (AreCountsWith (view x) p s)
-      (λ n. (c : Contents) × IsArchiveOf a p s c × AreCountsOf c n)
-      (λ n h. (h.0, archive_of a p s (view x) h.0 is h.1, h.2)) with.found;
-  only = λ c whole. with.only c
-      (subst (λ t. IsArchive t (lines_of p) (lines_of s) c) (sym (only c.table whole.is_table))
-      whole.is_archive);
-  refused = IfErr-weaker counted (IsRefusedWith (view x) p s) (IsNoArchive a p s)
-      (λ ending h. subst (IsNoArchive a p s) (sym h.2) (no_archive a p s (view x) h.0 is h.1))
-      with.refused;
+-- the texts that are lent are those that were read
+pub lent_texts : (y : Texts) (lent a p s : List ℕ) → y ≡ texts_checked lent p s → lent ≡ a
+    → y ≡ texts_checked a p s
+lent_texts y lent a p s is same = is ∙ ap (λ v. texts_checked v p s) same
+
+pub counted_of_opened : (y : Texts) (a p s : List ℕ) (n : Counts) (o : Opened)
+    → y ≡ texts_checked a p s → IsOpened y o → AreCountsOf o.archive.now n → IsCounted a p s (Ok n)
+counted_of_opened y a p s n o same is counts =
+    counted a p s n o (subst (λ v. IsOpened v o) same is) counts
+
+-- without a tracker no pattern is refused
+no_pattern : (e : OpenFault) → OrMemory (IsPatternOf None) e → ending_of_opening e ≡ NoMemory
+no_pattern (Refused (form.Table e)) is = absurd is
+no_pattern (Refused (form.Archive e)) is = absurd is
+no_pattern (Refused (form.State e)) is = absurd is
+no_pattern (Refused (form.NoSuchRow n)) is = absurd is
+no_pattern (Refused (form.Tracker e)) is = absurd is
+no_pattern (Refused (form.Journal e)) is = absurd is
+no_pattern opening.NoMemory is = refl
+
+no_archive : (a p s : List ℕ) (e : OpenFault) → IsUnopened (texts_checked a p s) e
+    → IsNoArchive a p s (ending_of_opening e)
+no_archive a p s (Refused (form.Table (table.BadLine n))) is = (refl, is)
+no_archive a p s (Refused (form.Table (table.Twice n))) is = (refl, is)
+no_archive a p s (Refused (form.Table table.TooMany)) is = (refl, is)
+no_archive a p s (Refused (form.Table table.NoMemory)) is = absurd is
+no_archive a p s (Refused (form.Archive (archive.Stanza f e))) is = (refl, is)
+no_archive a p s (Refused (form.Archive (archive.MissingField f n field))) is = (refl, is)
+no_archive a p s (Refused (form.Archive (archive.BadVersion f n field))) is = (refl, is)
+no_archive a p s (Refused (form.Archive (archive.BadRelation f n field))) is = (refl, is)
+no_archive a p s (Refused (form.Archive archive.TooManyRows)) is = (refl, is)
+no_archive a p s (Refused (form.Archive archive.NoMemory)) is = absurd is
+no_archive a p s (Refused (form.State e)) is = absurd is.2
+no_archive a p s (Refused (form.NoSuchRow n)) is = absurd is.2
+no_archive a p s (Refused (form.Tracker e)) is = absurd is.2.2
+no_archive a p s (Refused (form.Journal e)) is = absurd is.2.3
+no_archive a p s opening.NoMemory is = tt
+
+-- an archive is readable
+readable : (a p s : List ℕ) (c : Contents) → IsArchiveOf a p s c → AreReadable (texts_checked a p s)
+readable a p s c is =
+    let whole = to_opened a p s c is in
+    let rows = rows_there (texts_checked a p s) c whole in
+    (c, whole, record { rows = rows.0; are_rows = rows.1; tracker = tt; journal = tt })
+
+none_counted : (a p s : List ℕ) (e : OpenFault) → IsUnopened (texts_checked a p s) e
+    → (AreReadable (texts_checked a p s) → MayFail (texts_checked a p s) e)
+    → IsCounted a p s (Err (ending_of_opening e))
+none_counted a p s e is may = record {
+  found = tt;
+  only = λ c whole. no_pattern e (may (readable a p s c whole));
+  refused = no_archive a p s e is;
 }
-counted_in view a p s (Err e) counted is only bad with refused =
-    subst (IsCounted a p s) (sym refused) (no_table a p s e bad only)
+
+pub none_counted_of : (y : Texts) (a p s : List ℕ) (e : OpenFault) (ending : Ending)
+    → y ≡ texts_checked a p s → IsUnopened y e → (AreReadable y → MayFail y e)
+    → ending ≡ ending_of_opening e → IsCounted a p s (Err ending)
+none_counted_of y a p s e ending same is may ends =
+    subst (λ v. IsCounted a p s (Err v)) (sym ends)
+    (none_counted a p s e (subst (λ v. IsUnopened v e) same is)
+    (subst (λ v. AreReadable v → MayFail v e) same may))

@@ -17,7 +17,7 @@ use Rattle.td_tool.specs.Explained.{TellsCause, TellsOwnCause, fault_line, line_
 use Rattle.td_tool.specs.Explained.{unread_line}
 use Rattle.td_tool.specs.Places.{place_of}
 use Rattle.td_tool.specs.declared.cause.Cause.{Cause}
-use Rattle.td_script.specs.declared.role.Role.{Role}
+use Rattle.td_inputs.specs.declared.role.Role.{Role}
 use Rattle.td_tool.specs.declared.ending.Ended.{Ended}
 use Rattle.td_tool.specs.declared.ending.Ending.{Ending}
 use Rattle.td_tool.specs.declared.ending.Ending.TheVariants.{Done, Refused, BadInput, NoMemory}

@@ -1,7 +1,7 @@
 -- A script that was answered tells of no file that isn't read.
 use Rattle.std.proofs.Common.{◌≡◌, Bool, true, false, Result, Ok, Err, refl, ◌==◌}
 use Rattle.std.proofs.Common.{if◌then◌else◌}
-use Rattle.td_script.specs.declared.input_fault.InputFault.{InputFault}
+use Rattle.td_inputs.specs.declared.form_fault.FormFault.{FormFault}
 use Rattle.td_script.specs.declared.running.RunFault.{RunFault}
 use Rattle.td_script.specs.declared.running.RunFault.TheVariants as stopped
 use Rattle.td_script.specs.declared.running.ScriptEnd.{ScriptEnd}
@@ -13,7 +13,7 @@ use Rattle.td_tool.specs.Runs.{ending_of_crew, ending_of_script}
 use Rattle.td_tool.specs.UnreadFiles.{tells_of_unread_file}
 use Rattle.td_tool.proofs.FormEndings.{form_ends}
 
-of_form : (e : InputFault) → tells_of_unread_file (ending_of_form e) ≡ false
+of_form : (e : FormFault) → tells_of_unread_file (ending_of_form e) ≡ false
 of_form = form_ends (λ ending. tells_of_unread_file ending ≡ false) refl (λ role e. refl)
 
 of_stop : (e : RunFault) → tells_of_unread_file (ending_of_stop e) ≡ false

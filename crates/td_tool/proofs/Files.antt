@@ -14,15 +14,15 @@ use Rattle.td_indices.specs.Archive.{Contents}
 use Rattle.td_indices.specs.Archive as archive_file
 use Rattle.td_indices.specs.declared.archive_fault.ArchiveFault.{ArchiveFault}
 use Rattle.td_indices.specs.declared.archive_fault.ArchiveFault.TheVariants as archive
-use Rattle.td_tool.specs.declared.file_texts.FileTexts.{FileTexts}
+use Rattle.td_tool.specs.declared.early_texts.EarlyTexts.{EarlyTexts}
 use Rattle.td_tool.specs.declared.file_texts.FileFault.{FileFault}
-use Rattle.td_script.specs.declared.role.Role.{Role}
-use Rattle.td_script.specs.declared.role.Role.TheVariants.{Input, Archs, Packages, Sources, State}
-use Rattle.td_script.specs.declared.role.Role.TheVariants.{Tracker, Outcomes, Journal}
+use Rattle.td_inputs.specs.declared.role.Role.{Role}
+use Rattle.td_inputs.specs.declared.role.Role.TheVariants.{Input, Archs, Packages, Sources, State}
+use Rattle.td_inputs.specs.declared.role.Role.TheVariants.{Tracker, Outcomes, Journal}
 use Rattle.td_tool.specs.declared.input_fault.InputFault.{InputFault}
 use Rattle.td_tool.specs.declared.input_fault.InputFault.TheVariants.{TooLong, NotText, Simulation}
 use Rattle.td_tool.specs.declared.input_fault.InputFault.TheVariants.{BadOutcome, Form}
-use Rattle.td_script.specs.declared.input_fault.InputFault.TheVariants as form
+use Rattle.td_inputs.specs.declared.form_fault.FormFault.TheVariants as form
 use Rattle.td_tool.specs.declared.ending.Ending.{Ending}
 use Rattle.td_tool.specs.declared.ending.Ending.TheVariants.{Done, Refused, BadInput, NoMemory}
 use Rattle.td_tool.specs.declared.ending.Ending.TheVariants.{CannotRead, CannotWrite}
@@ -30,7 +30,8 @@ use Rattle.td_tool.specs.Ending.{ending_of_file}
 use Rattle.td_tool.specs.Counted.{IsArchiveOf}
 use Rattle.td_tool.specs.Checks.{Files, IsTextOf, IsArchiveIn, IsKnownArchive, IsNoText, HasFailed}
 use Rattle.td_tool.specs.Checks.{HasFileFault, CheckSays, Checks, HasArchiveFault, HasTableFault}
-use Rattle.td_tool.specs.CheckInside.{AreTextsIn, HasFailedIn, IsNoArchive, TextsSay}
+use Rattle.td_tool.specs.CheckInside.{HasFailedIn, IsNoArchive, TextsSay}
+use Rattle.td_tool.specs.TrackInside.{AreEarlyTextsIn}
 use Rattle.td_tool.specs.CheckInside.{FileTextsEnd, FileUnread}
 
 -- ---- one file
@@ -69,33 +70,34 @@ unread files old new role text.NoMemory failed kept = record { says = kept; only
 
 -- ---- three texts
 
-table_fault : (files : Files) (t : FileTexts) (e : ArchsFault) → AreTextsIn files t
+table_fault : (files : Files) (t : EarlyTexts) (e : ArchsFault) → AreEarlyTextsIn files t
     → table_file.FaultOf (lines_of (string_bytes t.archs)) e → HasTableFault files e
 table_fault files t e texts is = record {
   archs = string_bytes t.archs;
-  packages = string_bytes t.packages;
-  sources = string_bytes t.sources;
+  packages = t.packages;
+  sources = t.sources;
   texts = texts;
   fault = is;
 }
 
-archive_fault : (files : Files) (t : FileTexts) (e : ArchiveFault) → AreTextsIn files t
+archive_fault : (files : Files) (t : EarlyTexts) (e : ArchiveFault) → AreEarlyTextsIn files t
     → (ws : List ArchWords) × IsTable (lines_of (string_bytes t.archs)) ws
-    × archive_file.FaultOf ws (lines_of (string_bytes t.packages))
-    (lines_of (string_bytes t.sources)) e → HasArchiveFault files e
+    × archive_file.FaultOf ws (lines_of t.packages)
+    (lines_of t.sources) e → HasArchiveFault files e
 archive_fault files t e texts is = record {
   archs = string_bytes t.archs;
-  packages = string_bytes t.packages;
-  sources = string_bytes t.sources;
+  packages = t.packages;
+  sources = t.sources;
   texts = texts;
   archs_table = is.0;
   is_table = is.1;
   fault = is.2;
 }
 
-has_fault : (files : Files) (t : FileTexts) (role : Role) (e : InputFault) → AreTextsIn files t
-    → IsNoArchive (string_bytes t.archs) (string_bytes t.packages) (string_bytes t.sources)
-    (BadInput role e) → HasFileFault files role e
+has_fault : (files : Files) (t : EarlyTexts) (role : Role) (e : InputFault)
+    → AreEarlyTextsIn files t
+    → IsNoArchive (string_bytes t.archs) t.packages t.sources (BadInput role e)
+    → HasFileFault files role e
 has_fault files t role TooLong texts is = absurd is
 has_fault files t role NotText texts is = absurd is
 has_fault files t role (Simulation e) texts is = absurd is
@@ -123,21 +125,21 @@ has_fault files t role (Form (form.Tracker e)) texts is = absurd is
 has_fault files t role (BadOutcome n) texts is = absurd is
 has_fault files t role (Form (form.Journal e)) texts is = absurd is
 
-archive_in : (files : Files) (t : FileTexts) (c : Contents) → AreTextsIn files t
-    → IsArchiveOf (string_bytes t.archs) (string_bytes t.packages) (string_bytes t.sources) c
+archive_in : (files : Files) (t : EarlyTexts) (c : Contents) → AreEarlyTextsIn files t
+    → IsArchiveOf (string_bytes t.archs) t.packages t.sources c
     → IsArchiveIn files c
 archive_in files t c texts is =
     record {
       archs = string_bytes t.archs;
-      packages = string_bytes t.packages;
-      sources = string_bytes t.sources;
+      packages = t.packages;
+      sources = t.sources;
       texts = texts;
       archive = is;
     }
 
-check_says : (files : Files) (t : FileTexts) (old new : Option (List ℕ)) (ending : Ending)
-    → AreTextsIn files t
-    → TextsSay (string_bytes t.archs) (string_bytes t.packages) (string_bytes t.sources) old new
+check_says : (files : Files) (t : EarlyTexts) (old new : Option (List ℕ)) (ending : Ending)
+    → AreEarlyTextsIn files t
+    → TextsSay (string_bytes t.archs) t.packages t.sources old new
     ending → CheckSays files old new ending
 check_says files t old new Done texts says =
     (says.0, archive_in files t says.0 texts says.1, says.2)
@@ -150,24 +152,24 @@ check_says files t old new CannotWrite texts says =
     (says.0, archive_in files t says.0 texts says.1, says.2)
 
 -- the archive that is known is the one that was read
-archive_read : (files : Files) (t : FileTexts) (c : Contents) → AreTextsIn files t
+archive_read : (files : Files) (t : EarlyTexts) (c : Contents) → AreEarlyTextsIn files t
     → IsKnownArchive files c
-    → IsArchiveOf (string_bytes t.archs) (string_bytes t.packages) (string_bytes t.sources) c
+    → IsArchiveOf (string_bytes t.archs) t.packages t.sources c
 archive_read files t c texts known =
     let of_archs = subst (λ a. IsArchiveOf a known.packages known.sources c)
     (same_text files.in_archs known.archs (string_bytes t.archs) known.known_archs texts.archs_text)
     known.archive in
     let of_packages = subst (λ p. IsArchiveOf (string_bytes t.archs) p known.sources c)
-    (same_text files.in_packages known.packages (string_bytes t.packages) known.known_packages
+    (same_text files.in_packages known.packages t.packages known.known_packages
     texts.packages_text) of_archs in
-    subst (λ s. IsArchiveOf (string_bytes t.archs) (string_bytes t.packages) s c)
-    (same_text files.in_sources known.sources (string_bytes t.sources) known.known_sources
+    subst (λ s. IsArchiveOf (string_bytes t.archs) t.packages s c)
+    (same_text files.in_sources known.sources t.sources known.known_sources
     texts.sources_text) of_packages
 
 -- ---- the whole
 
-pub checks : (files : Files) (old new : Option (List ℕ)) (r : Result FileTexts FileFault)
-    (ending : Ending) → IfOk r (AreTextsIn files) → IfErr r (HasFailedIn files)
+pub checks : (files : Files) (old new : Option (List ℕ)) (r : Result EarlyTexts FileFault)
+    (ending : Ending) → IfOk r (AreEarlyTextsIn files) → IfErr r (HasFailedIn files)
     → IfOk r (λ t. FileTextsEnd t old new ending) → IfErr r (λ f. FileUnread f old new ending)
     → Checks files old new ending
 checks files old new (Ok t) ending texts failed ends none =

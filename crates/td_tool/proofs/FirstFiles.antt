@@ -2,7 +2,7 @@
 use Rattle.std.proofs.Common.{ℕ, Bool, List, Option, sym, subst}
 use Rattle.td_bytes.specs.declared.text.TextFault.{TextFault}
 use Rattle.td_tool.specs.declared.file_texts.FileFault.{FileFault}
-use Rattle.td_script.specs.declared.role.Role.TheVariants.{Archs, Packages, Sources}
+use Rattle.td_inputs.specs.declared.role.Role.TheVariants.{Archs, Packages, Sources}
 use Rattle.td_tool.specs.Checks.{HasFailed, IsTextOf, files_of}
 use Rattle.td_tool.specs.CheckInside.{HasFailedIn}
 use Rattle.td_tool.specs.TrackInside.{HasFailedFor}

@@ -4,9 +4,9 @@ use Rattle.td_indices.specs.declared.archive_fault.ArchiveFault.TheVariants as a
 use Rattle.td_rows.specs.declared.state_file.StateFault.TheVariants as state
 use Rattle.td_query.specs.declared.tracker_fault.TrackerFault.TheVariants as tracker
 use Rattle.td_journal.specs.declared.journal_fault.ReadError.TheVariants as journal
-use Rattle.td_script.specs.declared.input_fault.InputFault.{InputFault}
-use Rattle.td_script.specs.declared.input_fault.InputFault.TheVariants as form
-use Rattle.td_script.specs.declared.role.Role.{Role}
+use Rattle.td_inputs.specs.declared.form_fault.FormFault.{FormFault}
+use Rattle.td_inputs.specs.declared.form_fault.FormFault.TheVariants as form
+use Rattle.td_inputs.specs.declared.role.Role.{Role}
 use Rattle.td_tool.specs.declared.ending.Ending.{Ending}
 use Rattle.td_tool.specs.declared.ending.Ending.TheVariants.{BadInput, NoMemory}
 use Rattle.td_tool.specs.declared.input_fault.InputFault.TheVariants.{Form}
@@ -14,7 +14,7 @@ use Rattle.td_tool.specs.Ending.{ending_of_form}
 
 -- what is so of these endings
 pub form_ends : (Holds : Ending → Type 0) → Holds NoMemory
-    → ((role : Role) (e : InputFault) → Holds (BadInput role (Form e))) → (e : InputFault)
+    → ((role : Role) (e : FormFault) → Holds (BadInput role (Form e))) → (e : FormFault)
     → Holds (ending_of_form e)
 form_ends Holds none bad (form.Table (table.BadLine n)) = bad _ _
 form_ends Holds none bad (form.Table (table.Twice n)) = bad _ _

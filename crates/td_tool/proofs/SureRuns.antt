@@ -13,14 +13,15 @@ use Rattle.td_crew.specs.CrewEnds.{CrewOnly, CrewSays, outcomes_of}
 use Rattle.td_crew.specs.CrewText.{crew_tells}
 use Rattle.td_crew.specs.declared.running.CrewFault.{CrewFault}
 use Rattle.td_crew.specs.declared.running.CrewFault.TheVariants as crew
-use Rattle.td_script.specs.Openings as script
+use Rattle.td_script.specs.Openings.{texts_of as texts_of_inputs}
+use Rattle.td_inputs.specs.Inputs as script
 use Rattle.td_script.specs.declared.running.RunFault.{RunFault}
 use Rattle.td_script.specs.declared.running.RunFault.TheVariants as stopped
 use Rattle.td_script.specs.declared.running.ScriptEnd.{ScriptEnd}
-use Rattle.td_script.specs.declared.input_fault.InputFault.TheVariants as form
-use Rattle.td_script.specs.declared.role.Role.{Role}
-use Rattle.td_script.specs.declared.role.Role.TheVariants.{Input, Archs, Packages, Sources, State}
-use Rattle.td_script.specs.declared.role.Role.TheVariants.{Tracker, Outcomes, Journal}
+use Rattle.td_inputs.specs.declared.form_fault.FormFault.TheVariants as form
+use Rattle.td_inputs.specs.declared.role.Role.{Role}
+use Rattle.td_inputs.specs.declared.role.Role.TheVariants.{Input, Archs, Packages, Sources, State}
+use Rattle.td_inputs.specs.declared.role.Role.TheVariants.{Tracker, Outcomes, Journal}
 use Rattle.td_tool.specs.declared.ending.Ending.{Ending}
 use Rattle.td_tool.specs.declared.ending.Ending.TheVariants.{Done, Refused, NoMemory}
 use Rattle.td_tool.specs.Ending.{ending_of_file, ending_of_form, ending_of_stop}
@@ -114,37 +115,37 @@ crew_says n m x y lines given known old new r crew same its says =
 
 pub plays_alone : (n : ℕ) (x : Texts) (suite : List ℕ) (inputs : Inputs)
     (known old new : Option (List ℕ)) (r : Result ScriptEnd RunFault) (ending : Ending) → n ≡ 0
-    → AreInputsOf x suite n inputs → Says (script.texts_of inputs) known old new r
-    → Only (script.texts_of inputs) known r → ending ≡ ending_of_script r
+    → AreInputsOf x suite n inputs → Says (texts_of_inputs inputs) known old new r
+    → Only (texts_of_inputs inputs) known r → ending ≡ ending_of_script r
     → Plays n x suite known old new ending
 plays_alone n x suite inputs known old new r ending zero are says only is =
     subst (λ m. Plays m x suite known old new ending) (sym zero)
     (record {
       says = (r, subst (λ y. Says y known old new r) are.texts says, is);
-      only = script_only (script_texts x suite) (script.texts_of inputs) known r ending are.texts
+      only = script_only (script_texts x suite) (texts_of_inputs inputs) known r ending are.texts
           only is;
     })
 
 pub plays_crew : (n : ℕ) (x : Texts) (suite : List ℕ) (inputs : Inputs)
     (known old new : Option (List ℕ)) (r : Result ScriptEnd CrewFault) (ending : Ending)
     → (n == 0) ≡ false → AreInputsOf x suite n inputs
-    → CrewSays (crew_tells inputs.builders) (script.texts_of inputs) (outcomes_of inputs) known old
+    → CrewSays (crew_tells inputs.builders) (texts_of_inputs inputs) (outcomes_of inputs) known old
     new r
-    → CrewOnly (script.texts_of inputs) (outcomes_of inputs) known r → ending ≡ ending_of_crew r
+    → CrewOnly (texts_of_inputs inputs) (outcomes_of inputs) known r → ending ≡ ending_of_crew r
     → Plays n x suite known old new ending
 plays_crew n x suite inputs known old new r ending some are says only is =
     record {
       says =
           rw some (
             r,
-            crew_says (crew_size n) inputs.builders (script_texts x suite) (script.texts_of inputs)
+            crew_says (crew_size n) inputs.builders (script_texts x suite) (texts_of_inputs inputs)
                 (outcome_lines x) (outcomes_of inputs) known old new r are.crew are.texts
                 are.outcomes says,
             is,
           );
       only =
           rw some
-          (crew_only (script_texts x suite) (script.texts_of inputs) (outcome_lines x)
+          (crew_only (script_texts x suite) (texts_of_inputs inputs) (outcome_lines x)
           (outcomes_of inputs) known r ending are.texts are.outcomes only is);
     }
 

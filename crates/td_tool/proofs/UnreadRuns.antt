@@ -2,8 +2,8 @@
 use Rattle.std.proofs.Common.{◌≡◌, ℕ, List, Option, None, Result, Ok, Err, IfErr, IsErrAnd, sym}
 use Rattle.std.proofs.Common.{subst}
 use Rattle.td_tool.specs.declared.file_texts.FileFault.{FileFault}
-use Rattle.td_script.specs.declared.role.Role.{Role}
-use Rattle.td_script.specs.declared.role.Role.TheVariants.{State, Tracker, Outcomes, Journal}
+use Rattle.td_inputs.specs.declared.role.Role.{Role}
+use Rattle.td_inputs.specs.declared.role.Role.TheVariants.{State, Tracker, Outcomes, Journal}
 use Rattle.td_tool.specs.Checks.{AreTexts}
 use Rattle.td_tool.specs.CheckInside.{HasFailedIn}
 use Rattle.td_tool.specs.RunInside.{HasRunFailed}

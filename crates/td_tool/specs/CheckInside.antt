@@ -1,6 +1,6 @@
 -- What the inner functions of a check answer. This project's own.
-use Rattle.std.specs.Prelude.{◌≡◌, ℕ, ◌≤◌, List, length, Option, Result, IfOk, IfErr, MatchResult}
-use Rattle.std.specs.Prelude.{String, string_bytes}
+use Rattle.std.specs.Prelude.{◌≡◌, ℕ, ◌≤◌, List, [], length, Option, None, Result, IfOk, IfErr}
+use Rattle.std.specs.Prelude.{MatchResult, String, string_bytes}
 use Rattle.std.specs.declared.alloc.Global.{Global}
 use Rattle.std.specs.Io.KnownBytes.{Appends, Keeps}
 use Rattle.td_bytes.specs.Pieces.{AppendsPrefix}
@@ -9,23 +9,24 @@ use Rattle.td_relation.specs.Arch.{ArchWords}
 use Rattle.td_relation.specs.TableFile.{IsTable}
 use Rattle.td_relation.specs.TableFile as table_file
 use Rattle.td_relation.specs.declared.archs.ArchsFault.TheVariants as table
-use Rattle.td_indices.specs.Archive.{Contents, IsArchive}
+use Rattle.td_indices.specs.Archive.{Contents}
 use Rattle.td_indices.specs.Archive as archive_file
 use Rattle.td_indices.specs.Rows.{row_count}
-use Rattle.td_indices.specs.declared.archive_fault.ArchiveFault.{ArchiveFault}
 use Rattle.td_indices.specs.declared.archive_fault.ArchiveFault.TheVariants as archive
 use Rattle.td_tool.specs.declared.checking.Counts.{Counts}
+use Rattle.td_tool.specs.declared.early_texts.EarlyTexts.{EarlyTexts}
 use Rattle.td_tool.specs.declared.file_texts.FileTexts.{FileTexts}
 use Rattle.td_tool.specs.declared.file_texts.FileFault.{FileFault}
-use Rattle.td_script.specs.declared.role.Role.TheVariants.{Archs}
-use Rattle.td_script.specs.Faults.{role_of_archive}
+use Rattle.td_inputs.specs.declared.role.Role.TheVariants.{Archs}
+use Rattle.td_inputs.specs.Faults.{role_of_archive}
+use Rattle.td_inputs.specs.Inputs.{Texts}
 use Rattle.td_tool.specs.declared.input_fault.InputFault.TheVariants.{TooLong, NotText, Simulation}
 use Rattle.td_tool.specs.declared.input_fault.InputFault.TheVariants.{BadOutcome, Form}
-use Rattle.td_script.specs.declared.input_fault.InputFault.TheVariants as form
+use Rattle.td_inputs.specs.declared.form_fault.FormFault.TheVariants as form
 use Rattle.td_tool.specs.declared.ending.Ending.{Ending}
 use Rattle.td_tool.specs.declared.ending.Ending.TheVariants.{Done, Refused, BadInput, NoMemory}
 use Rattle.td_tool.specs.declared.ending.Ending.TheVariants.{CannotRead, CannotWrite}
-use Rattle.td_tool.specs.Ending.{ending_of_file, ending_of_form}
+use Rattle.td_tool.specs.Ending.{ending_of_file}
 use Rattle.td_tool.specs.Counted.{IsArchiveOf, counts_line, line_of_counts}
 use Rattle.td_tool.specs.Limits.{file_limit}
 use Rattle.td_tool.specs.Checks.{Files, AreTexts, EndsCounted, HasFailed}
@@ -42,8 +43,20 @@ abbrev pub HasFailedIn : Files → FileFault → Type 0
 HasFailedIn files f = HasFailed files f.role f.fault
 
 -- the table's text is within the limit
-abbrev pub IsWithin : FileTexts → Type 0
+abbrev pub IsWithin : EarlyTexts → Type 0
 IsWithin t = length (string_bytes t.archs) ≤ file_limit
+
+-- the texts that a check opens: an archive's, with nothing over it
+abbrev pub texts_checked : List ℕ → List ℕ → List ℕ → Texts
+texts_checked a p s = record {
+  archs = a;
+  packages = p;
+  sources = s;
+  state = None;
+  tracker = None;
+  journal = None;
+  suite = [];
+}
 
 -- ---- 2. the counts
 
@@ -52,24 +65,6 @@ pub record AreCountsOf (c : Contents) (n : Counts) : Type 0 where
   pub of_sources : n.sources ≡ length c.sources
   pub of_binaries : n.binaries ≡ length c.binaries
   pub of_rows : n.rows ≡ row_count c.table c.sources
-
--- the counts of an archive that two texts are with this table
-abbrev pub AreCountsWith : List ArchWords → List ℕ → List ℕ → Counts → Type 0
-AreCountsWith t p s n = (c : Contents) × IsArchive t (lines_of p) (lines_of s) c × AreCountsOf c n
-
--- two texts are no archive with this table, and so it ends
-abbrev pub IsRefusedWith : List ArchWords → List ℕ → List ℕ → Ending → Type 0
-IsRefusedWith t p s ending =
-    (e : ArchiveFault) × archive_file.FaultOf t (lines_of p) (lines_of s) e
-    × (ending ≡ ending_of_form (form.Archive e))
-
--- what is counted of two texts with this table: an archive is, unless memory runs out
-pub record IsCountedWith (t : List ArchWords) (p s : List ℕ)
-    (counted : Result Counts Ending) : Type 0 where
-  pub found : IfOk counted (AreCountsWith t p s)
-  pub only : (c : Contents) → IsArchive t (lines_of p) (lines_of s) c
-      → MatchResult counted (AreCountsOf c) (λ e. e ≡ NoMemory)
-  pub refused : IfErr counted (IsRefusedWith t p s)
 
 -- the ending where three texts are no archive, or memory runs out
 abbrev pub IsNoArchive : List ℕ → List ℕ → List ℕ → Ending → Type 0
@@ -139,11 +134,10 @@ pub record TextsEnd (a p s : List ℕ) (old new : Option (List ℕ)) (ending : E
   pub says : TextsSay a p s old new ending
   pub only : (c : Contents) → IsArchiveOf a p s c → EndsCounted c old new ending
 
--- the same of the texts that were read from the three files
-abbrev pub FileTextsEnd : FileTexts → Option (List ℕ) → Option (List ℕ) → Ending → Type 0
+-- the texts that were read from the three files end the check so
+abbrev pub FileTextsEnd : EarlyTexts → Option (List ℕ) → Option (List ℕ) → Ending → Type 0
 FileTextsEnd t old new ending =
-    TextsEnd (string_bytes t.archs) (string_bytes t.packages) (string_bytes t.sources) old new
-    ending
+    TextsEnd (string_bytes t.archs) t.packages t.sources old new ending
 
 -- a file wasn't read, for this
 abbrev pub FileUnread : FileFault → Option (List ℕ) → Option (List ℕ) → Ending → Type 0

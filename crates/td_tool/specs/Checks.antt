@@ -17,14 +17,14 @@ use Rattle.td_indices.specs.declared.archive_fault.ArchiveFault.{ArchiveFault}
 use Rattle.td_indices.specs.declared.archive_fault.ArchiveFault.TheVariants as archive
 use Rattle.td_words.specs.declared.request.ArchivePaths.{ArchivePaths}
 use Rattle.td_tool.specs.Limits.{file_limit}
-use Rattle.td_script.specs.declared.role.Role.{Role}
-use Rattle.td_script.specs.declared.role.Role.TheVariants.{Input, Archs, Packages, Sources, State}
-use Rattle.td_script.specs.declared.role.Role.TheVariants.{Tracker, Outcomes, Journal}
-use Rattle.td_script.specs.Faults.{role_of_archive}
+use Rattle.td_inputs.specs.declared.role.Role.{Role}
+use Rattle.td_inputs.specs.declared.role.Role.TheVariants.{Input, Archs, Packages, Sources, State}
+use Rattle.td_inputs.specs.declared.role.Role.TheVariants.{Tracker, Outcomes, Journal}
+use Rattle.td_inputs.specs.Faults.{role_of_archive}
 use Rattle.td_tool.specs.declared.input_fault.InputFault.{InputFault}
 use Rattle.td_tool.specs.declared.input_fault.InputFault.TheVariants.{TooLong, NotText, Simulation}
 use Rattle.td_tool.specs.declared.input_fault.InputFault.TheVariants.{BadOutcome, Form}
-use Rattle.td_script.specs.declared.input_fault.InputFault.TheVariants as form
+use Rattle.td_inputs.specs.declared.form_fault.FormFault.TheVariants as form
 use Rattle.td_tool.specs.declared.ending.Ending.{Ending}
 use Rattle.td_tool.specs.declared.ending.Ending.TheVariants.{Done, Refused, BadInput, NoMemory}
 use Rattle.td_tool.specs.declared.ending.Ending.TheVariants.{CannotRead, CannotWrite}

@@ -10,14 +10,16 @@ use Rattle.td_journal.specs.declared.journal_fault.ReadError.TheVariants as jour
 use Rattle.td_simulate.specs.declared.fault.SimulationFault.{SimulationFault}
 use Rattle.td_simulate.specs.declared.fault.SimulationFault.TheVariants as simulation
 use Rattle.td_simulate.specs.Faults.{fault_name}
-use Rattle.td_script.specs.declared.input_fault.InputFault.{InputFault as FormFault}
-use Rattle.td_script.specs.declared.input_fault.InputFault.TheVariants as form
+use Rattle.td_inputs.specs.declared.form_fault.FormFault.{FormFault}
+use Rattle.td_inputs.specs.declared.form_fault.FormFault.TheVariants as form
+use Rattle.td_inputs.specs.declared.open_fault.OpenFault.{OpenFault}
+use Rattle.td_inputs.specs.declared.open_fault.OpenFault.TheVariants as opening
 use Rattle.td_script.specs.declared.running.RunFault.{RunFault}
 use Rattle.td_script.specs.declared.running.RunFault.TheVariants as stopped
-use Rattle.td_script.specs.Faults as form_fault
-use Rattle.td_script.specs.Faults.{label_of, role_of}
-use Rattle.td_script.specs.declared.role.Role.{Role}
-use Rattle.td_script.specs.declared.role.Role.TheVariants as role
+use Rattle.td_inputs.specs.Faults as form_fault
+use Rattle.td_inputs.specs.Faults.{label_of, role_of}
+use Rattle.td_inputs.specs.declared.role.Role.{Role}
+use Rattle.td_inputs.specs.declared.role.Role.TheVariants as role
 use Rattle.td_tool.specs.declared.input_fault.InputFault.{InputFault}
 use Rattle.td_tool.specs.declared.input_fault.InputFault.TheVariants.{TooLong, NotText, Simulation}
 use Rattle.td_tool.specs.declared.input_fault.InputFault.TheVariants.{BadOutcome, Form}
@@ -54,6 +56,11 @@ ending_of_form (form.State state.NoMemory) = NoMemory
 ending_of_form (form.Tracker tracker.NoMemory) = NoMemory
 ending_of_form (form.Journal journal.NoMemory) = NoMemory
 ending_of_form e = BadInput (role_of e) (Form e)
+
+-- how a run ends where its texts aren't opened
+abbrev pub ending_of_opening : OpenFault → Ending
+ending_of_opening (opening.Refused e) = ending_of_form e
+ending_of_opening opening.NoMemory = NoMemory
 
 -- how a run ends where its script stopped
 abbrev pub ending_of_stop : RunFault → Ending

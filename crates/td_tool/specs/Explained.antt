@@ -15,11 +15,11 @@ use Rattle.td_tool.specs.Ending.{line_of}
 use Rattle.td_tool.specs.Limits.{file_limit}
 use Rattle.td_tool.specs.Places.{place_of}
 use Rattle.td_tool.specs.Tracks.{MayFail, OneFile}
-use Rattle.td_script.specs.Faults.{label_of}
+use Rattle.td_inputs.specs.Faults.{label_of}
 use Rattle.td_tool.specs.Wanted.{wanted_file, wanted_input}
-use Rattle.td_script.specs.declared.role.Role.{Role}
-use Rattle.td_script.specs.declared.role.Role.TheVariants.{Input, Archs, Packages, Sources, State}
-use Rattle.td_script.specs.declared.role.Role.TheVariants.{Tracker, Outcomes, Journal}
+use Rattle.td_inputs.specs.declared.role.Role.{Role}
+use Rattle.td_inputs.specs.declared.role.Role.TheVariants.{Input, Archs, Packages, Sources, State}
+use Rattle.td_inputs.specs.declared.role.Role.TheVariants.{Tracker, Outcomes, Journal}
 use Rattle.td_tool.specs.declared.cause.Cause.{Cause}
 use Rattle.td_tool.specs.declared.input_fault.InputFault.{InputFault}
 use Rattle.td_tool.specs.declared.input_fault.InputFault.TheVariants.{Simulation}

@@ -16,8 +16,8 @@ use Rattle.td_journal.specs.declared.journal_fault.ReadError.{ReadError}
 use Rattle.td_journal.specs.declared.journal_fault.ReadError.TheVariants as journal
 use Rattle.td_simulate.specs.declared.fault.SimulationFault.{SimulationFault}
 use Rattle.td_simulate.specs.declared.fault.SimulationFault.TheVariants as simulation
-use Rattle.td_script.specs.declared.input_fault.InputFault.{InputFault as FormFault}
-use Rattle.td_script.specs.declared.input_fault.InputFault.TheVariants as form
+use Rattle.td_inputs.specs.declared.form_fault.FormFault.{FormFault}
+use Rattle.td_inputs.specs.declared.form_fault.FormFault.TheVariants as form
 use Rattle.td_tool.specs.declared.input_fault.InputFault.{InputFault}
 use Rattle.td_tool.specs.declared.input_fault.InputFault.TheVariants as refused
 

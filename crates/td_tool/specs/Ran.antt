@@ -2,7 +2,7 @@
 use Rattle.std.specs.Prelude.{◌≡◌, ℕ, Bool, List, Option}
 use Rattle.td_tool.specs.Ending.{status_of}
 use Rattle.td_tool.specs.Explained.{SaysOf}
-use Rattle.td_script.specs.declared.role.Role.{Role}
+use Rattle.td_inputs.specs.declared.role.Role.{Role}
 use Rattle.td_tool.specs.declared.ending.Ending.{Ending}
 
 -- the status and what is said on standard error are those of one ending, with which the run ends

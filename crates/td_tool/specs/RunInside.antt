@@ -3,7 +3,7 @@ use Rattle.std.specs.Prelude.{◌≡◌, ◌⊎◌, ℕ, ◌≤◌, Bool, List, 
 use Rattle.std.specs.Prelude.{option_map}
 use Rattle.std.specs.Prelude.{string_bytes}
 use Rattle.td_bytes.specs.declared.text.TextFault.{TextFault}
-use Rattle.td_script.specs.Openings as script
+use Rattle.td_script.specs.Openings.{texts_of as texts_of_inputs}
 use Rattle.td_script.specs.declared.inputs.Inputs.{Inputs}
 use Rattle.td_words.specs.Asked.{run_words}
 use Rattle.td_words.specs.declared.request.RunRequest.{RunRequest}
@@ -48,7 +48,7 @@ IsWithinLimit x = length (string_bytes x.indices.archs) ≤ file_limit
 
 -- a script's inputs have these texts, and so many builders
 pub record AreInputsOf (x : Texts) (suite : List ℕ) (builders : ℕ) (inputs : Inputs) : Type 0 where
-  pub texts : script.texts_of inputs ≡ script_texts x suite
+  pub texts : texts_of_inputs inputs ≡ script_texts x suite
   pub outcomes : outcomes_of inputs ≡ outcome_lines x
   pub crew : inputs.builders ≡ crew_size builders
 

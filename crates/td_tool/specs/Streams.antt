@@ -1,6 +1,6 @@
 -- Which endings say that a stream may fail. This project's own.
 use Rattle.std.specs.Prelude.{◌≡◌, Bool, true}
-use Rattle.td_script.specs.declared.role.Role.TheVariants.{Input}
+use Rattle.td_inputs.specs.declared.role.Role.TheVariants.{Input}
 use Rattle.td_tool.specs.declared.ending.Ending.{Ending}
 use Rattle.td_tool.specs.declared.ending.Ending.TheVariants.{Done, Refused, BadInput, NoMemory}
 use Rattle.td_tool.specs.declared.ending.Ending.TheVariants.{CannotRead, CannotWrite}

@@ -1,24 +1,16 @@
 -- What the inner functions of `track` and `waves` answer. This project's own.
-use Rattle.std.specs.Prelude.{◌≡◌, ◌⊎◌, ◌≤◌, ℕ, Bool, List, length, Option, Some, option_map}
-use Rattle.std.specs.Prelude.{Result, IfOk, IfErr, IsErrAnd, String, string_bytes}
+use Rattle.std.specs.Prelude.{◌≡◌, ◌⊎◌, ◌≤◌, ℕ, Bool, List, length, Option, None, Some, option_map}
+use Rattle.std.specs.Prelude.{Result, IfOk, IfErr, String, string_bytes}
 use Rattle.std.specs.declared.alloc.Global.{Global}
 use Rattle.std.specs.Io.KnownBytes.{Keeps}
 use Rattle.td_bytes.specs.declared.text.TextFault.{TextFault}
-use Rattle.td_text.specs.Lines.{lines_of}
-use Rattle.td_relation.specs.Arch.{ArchWords}
 use Rattle.td_rows.specs.Table.{Table}
-use Rattle.td_indices.specs.Archive.{Contents, IsArchive}
-use Rattle.td_indices.specs.Archive as archive_file
-use Rattle.td_indices.specs.declared.archive_fault.ArchiveFault.{ArchiveFault}
+use Rattle.td_indices.specs.Archive.{Contents}
+use Rattle.td_inputs.specs.Inputs.{AreOpened}
+use Rattle.td_inputs.specs.declared.role.Role.{Role}
 use Rattle.td_query.specs.Tracking.{Tracking}
 use Rattle.td_report.specs.Transition.{IsReport, IsWaves}
-use Rattle.td_script.specs.Openings as script
-use Rattle.td_script.specs.Openings.{AreRowsOf}
-use Rattle.td_script.specs.declared.input_fault.InputFault.{InputFault as FormFault}
-use Rattle.td_script.specs.declared.input_fault.InputFault.TheVariants as form
-use Rattle.td_tool.specs.Ending.{ending_of_form}
 use Rattle.td_tool.specs.Limits.{file_limit}
-use Rattle.td_script.specs.declared.role.Role.{Role}
 use Rattle.td_tool.specs.declared.early_texts.EarlyTexts.{EarlyTexts}
 use Rattle.td_tool.specs.declared.file_texts.FileFault.{FileFault}
 use Rattle.td_tool.specs.Checks.{AreTexts, Files}
@@ -29,9 +21,9 @@ use Rattle.td_tool.specs.declared.tracking.Asked.{Asked}
 use Rattle.td_tool.specs.declared.tracking.Asked.TheVariants.{Report, Waves}
 use Rattle.td_tool.specs.declared.ending.Ending.{Ending}
 use Rattle.td_tool.specs.declared.ending.Ending.TheVariants.{NoMemory}
-use Rattle.td_tool.specs.Tracks.{AreReadable, AreRefused, AreTextsOf, EndsTold, FailsAt, IsEndedBy}
-use Rattle.td_tool.specs.Tracks.{IsPatternRefused, MayFail, OneFile, RowsSay, Saying, TextsEndSo}
-use Rattle.td_tool.specs.Tracks.{TextsSayIt, Texts, TrackFiles, as_script, track_files}
+use Rattle.td_tool.specs.Tracks.{AreReadable, AreRefused, AreTextsOf, EndsTold, FailsAt}
+use Rattle.td_tool.specs.Tracks.{IsPatternRefused, MayFail, OneFile, Saying, TextsEndSo}
+use Rattle.td_tool.specs.Tracks.{TextsSayIt, Texts, TrackFiles, track_files}
 
 -- what is told of a tracker
 abbrev pub saying_of : Asked → Saying
@@ -46,7 +38,7 @@ files_at bytes can_fail p =
     (string_bytes p.files.now.sources) (option_map string_bytes p.state.now)
     (string_bytes p.tracker.now)
 
--- those of an archive, and those that were read to be looked at over it
+-- the texts of an archive, and those that were read to be looked at over it
 abbrev pub texts_over : List ℕ → List ℕ → List ℕ → TrackerTexts → Texts
 texts_over archs packages sources over = record {
   archs = archs;
@@ -88,76 +80,15 @@ pub record HasFailedIfGiven (files : Option OneFile) (role : Role) (f : FileFaul
 abbrev pub OrMemory : (Ending → Type 0) → Ending → Type 0
 OrMemory Ends ending = Ends ending ⊎ (ending ≡ NoMemory)
 
--- ---- 1. the rows of an archive
+-- ---- 1. what was opened
 
--- a state file is refused over an archive: it is none, or has a row that the archive hasn't
-abbrev pub IsStateRefused : Contents → Option (List ℕ) → FormFault → Type 0
-IsStateRefused c state (form.State e) = script.IsNoState state e
-IsStateRefused c state (form.NoSuchRow n) = script.LacksRowAt c state n
-IsStateRefused c state e = ⊥
+-- what a tracker says over an archive: over the rows that are given, else over all with which a
+-- desk opens over it
+abbrev pub GivenSays : Saying → Contents → Option Table → Tracking → List ℕ → Type 0
+GivenSays Says c None t text = (rows : Table) × AreOpened c rows × Says c t rows text
+GivenSays Says c (Some rows) t text = Says c t rows text
 
--- there are no rows to look at over an archive, and so it ends: their text is refused, or memory
--- runs out, and that alone where the rows can be had
-pub record EndsWithoutRows (c : Contents) (state : Option (List ℕ)) (ending : Ending) : Type 0 where
-  pub refused : OrMemory (IsEndedBy (IsStateRefused c state)) ending
-  pub only : (rows : Table) → AreRowsOf c state rows → ending ≡ NoMemory
-
--- ---- 2. over an archive, by what the tracker was read as
-
--- what a tracker says over the rows of an archive, or over those of a state file in their places
-abbrev pub RowsAreSaid : Saying → Contents → Option (List ℕ) → Tracking → List ℕ → Type 0
-RowsAreSaid Says c state t text = (rows : Table) × AreRowsOf c state rows × Says c t rows text
-
--- that is told, or there are no rows
-pub record TellsTracker (Says : Saying) (c : Contents) (state : Option (List ℕ)) (t : Tracking)
-    (told : Result (String Global) Ending) : Type 0 where
-  pub found : IfOk told (λ text. RowsAreSaid Says c state t (string_bytes text))
-  pub none : IfErr told (EndsWithoutRows c state)
-
--- nothing is, since there is no tracker: so it ends, unless there are no rows
-abbrev pub TellsNone : Contents → Option (List ℕ) → Ending → Result (String Global) Ending → Type 0
-TellsNone c state none told =
-    IsErrAnd told (λ ending. EndsWithoutRows c state ending
-    ⊎ ((rows : Table) × AreRowsOf c state rows × (ending ≡ none)))
-
--- the same by the text of the tracker
-pub record TellsOver (Says : Saying) (c : Contents) (x : Texts)
-    (told : Result (String Global) Ending) : Type 0 where
-  pub found : IfOk told (λ text. RowsSay Says c x.state x.tracker (string_bytes text))
-  pub refused : IfErr told (OrMemory (IsEndedBy (script.IsRefusedOver c (as_script x))))
-  pub only : IfErr told (λ ending.
-      script.IsReadableOver c (as_script x) → IsPatternRefused x.tracker ending)
-
--- ---- 3. by what the table was read as
-
--- what the texts say, where this is the table of architectures
-abbrev pub IndicesSay : Saying → List ArchWords → Texts → List ℕ → Type 0
-IndicesSay Says t x text =
-    (c : Contents) × IsArchive t (lines_of x.packages) (lines_of x.sources) c
-    × RowsSay Says c x.state x.tracker text
-
--- the indices are no archive with this table, or what stands over it is refused, and so it ends
-abbrev pub AreRefusedWith : List ArchWords → Texts → Ending → Type 0
-AreRefusedWith t x ending =
-    ((e : ArchiveFault) × archive_file.FaultOf t (lines_of x.packages) (lines_of x.sources) e
-    × (ending ≡ ending_of_form (form.Archive e)))
-    ⊎ ((c : Contents) × IsArchive t (lines_of x.packages) (lines_of x.sources) c
-    × IsEndedBy (script.IsRefusedOver c (as_script x)) ending)
-
--- the texts are readable with this table
-abbrev pub AreReadableWith : List ArchWords → Texts → Type 0
-AreReadableWith t x =
-    (c : Contents) × IsArchive t (lines_of x.packages) (lines_of x.sources) c
-    × script.IsReadableOver c (as_script x)
-
--- they are told, or refused, and readable ones for nothing but a pattern
-pub record TellsWith (Says : Saying) (t : List ArchWords) (x : Texts)
-    (told : Result (String Global) Ending) : Type 0 where
-  pub found : IfOk told (λ text. IndicesSay Says t x (string_bytes text))
-  pub refused : IfErr told (OrMemory (AreRefusedWith t x))
-  pub only : IfErr told (λ ending. AreReadableWith t x → IsPatternRefused x.tracker ending)
-
--- ---- 4. by the texts
+-- ---- 2. by the texts
 
 -- they are told, or refused, and readable ones for nothing but a pattern
 pub record Tells (Says : Saying) (x : Texts) (told : Result (String Global) Ending) : Type 0 where

@@ -10,13 +10,13 @@ use Rattle.td_query.specs.TrackerFaults as tracker_file
 use Rattle.td_query.specs.TrackerGrammar.{said_in}
 use Rattle.td_query.specs.Tracking.{IsTracker, Tracking}
 use Rattle.td_query.specs.declared.tracker_fault.TrackerFault.{TrackerFault}
-use Rattle.td_script.specs.Openings as script
-use Rattle.td_script.specs.Openings.{AreRowsOf}
-use Rattle.td_script.specs.declared.role.Role.{Role}
-use Rattle.td_script.specs.declared.role.Role.TheVariants.{Input, Archs, Packages, Sources, State}
-use Rattle.td_script.specs.declared.role.Role.TheVariants.{Tracker, Outcomes, Journal}
-use Rattle.td_script.specs.declared.input_fault.InputFault.{InputFault as FormFault}
-use Rattle.td_script.specs.declared.input_fault.InputFault.TheVariants as form
+use Rattle.td_inputs.specs.Inputs as script
+use Rattle.td_inputs.specs.Inputs.{AreRowsOf}
+use Rattle.td_inputs.specs.declared.role.Role.{Role}
+use Rattle.td_inputs.specs.declared.role.Role.TheVariants.{Input, Archs, Packages, Sources, State}
+use Rattle.td_inputs.specs.declared.role.Role.TheVariants.{Tracker, Outcomes, Journal}
+use Rattle.td_inputs.specs.declared.form_fault.FormFault.{FormFault}
+use Rattle.td_inputs.specs.declared.form_fault.FormFault.TheVariants as form
 use Rattle.td_tool.specs.declared.ending.Ending.{Ending}
 use Rattle.td_tool.specs.declared.ending.Ending.TheVariants.{Done, Refused, BadInput, NoMemory}
 use Rattle.td_tool.specs.declared.ending.Ending.TheVariants.{CannotRead, CannotWrite}
@@ -43,7 +43,7 @@ pub record TrackFiles : Type 0 where
   pub state : Option OneFile
   pub tracker : OneFile
 
--- those of these paths
+-- the files of these paths
 abbrev pub track_files : (List ℕ → Option (List ℕ)) → (List ℕ → TextFault → Bool) → List ℕ → List ℕ
     → List ℕ → Option (List ℕ) → List ℕ → TrackFiles
 track_files bytes can_fail archs packages sources state tracker =
@@ -116,12 +116,12 @@ Saying = Contents → Tracking → Table → List ℕ → Type 0
 abbrev pub TrackerSays : Saying → Contents → Table → List ℕ → List ℕ → Type 0
 TrackerSays Says c rows tracker text = (t : Tracking) × IsTracker tracker t × Says c t rows text
 
--- the same over the rows of an archive
+-- the text that a tracker says over the rows of an archive
 abbrev pub RowsSay : Saying → Contents → Option (List ℕ) → List ℕ → List ℕ → Type 0
 RowsSay Says c state tracker text =
     (rows : Table) × AreRowsOf c state rows × TrackerSays Says c rows tracker text
 
--- the same of texts
+-- the text that texts say
 abbrev pub TextsSayIt : Saying → Texts → List ℕ → Type 0
 TextsSayIt Says x text =
     (c : Contents) × IsArchiveOf x.archs x.packages x.sources c

@@ -1,26 +1,24 @@
 //! The subcommand `check`: sources, binary packages and rows of two indices are counted.
-ghost use Rattle.std.specs.Prelude.{◌≡◌, ◌≤◌, length, string_bytes, Ok, Err, IfOk, IfErr};
-ghost use Rattle.std.specs.Prelude.{◌≢◌, true, IsOkAnd, MatchResult};
+ghost use Rattle.std.specs.Prelude.{◌≡◌, ◌≢◌, ◌≤◌, true, length, string_bytes, Err, IfOk, IfErr};
+ghost use Rattle.std.specs.Prelude.{MatchResult};
 ghost use Rattle.std.specs.Result.{ForOk};
-ghost use Rattle.td_relation.specs.TableView.{table};
+ghost use Rattle.td_inputs.specs.Opened.{texts_of as texts_opened};
 ghost use Rattle.td_tool.specs.Checks.{Checks, archive_files_at};
 ghost use Rattle.td_tool.specs.CheckInside.{AreCountsOf, EndsUnwritten, FileTextsEnd, FileUnread};
-ghost use Rattle.td_tool.specs.CheckInside.{IsCounted, IsCountedWith, IsLineFor, IsWithin};
-ghost use Rattle.td_tool.specs.CheckInside.{WritesSo};
+ghost use Rattle.td_tool.specs.CheckInside.{IsCounted, IsLineFor, IsWithin, WritesSo};
+ghost use Rattle.td_tool.specs.CheckInside.{texts_checked};
 ghost use Rattle.td_tool.specs.Counted.{line_of_counts};
-ghost use Rattle.td_tool.specs.Ending.{ending_of_form as ending_of};
 ghost use Rattle.td_tool.specs.Limits.{file_limit};
 
-use crate::ending::{Ending, ending_of_file, ending_of_form};
-use crate::file_texts::{FileFault, FileTexts, read_files};
+use crate::early_texts::{EarlyTexts, read_early};
+use crate::ending::{Ending, ending_of_file, ending_of_opening};
+use crate::file_texts::FileFault;
 use crate::texts::Texts;
 use std::alloc::{AllocError, Global};
-use std::mem;
 use std::thread::Threads;
 use td_bytes::{Writer, write_whole};
-use td_indices::{Archive, ArchiveFault};
-use td_relation::{Archs, ArchsFault};
-use td_script::InputFault as FormFault;
+use td_indices::{Archive, IndexText};
+use td_inputs::{InputTexts, Opened, open_texts};
 use td_text::put_number;
 use td_words::ArchivePaths;
 
@@ -43,54 +41,39 @@ fn archive_counts(archive: &Archive<'_, '_>) -> Counts
     }
 }
 
-// What is to be counted, by what two indices were read as.
-fn counts_of(archive: Result<Archive<'_, '_>, ArchiveFault>) -> Result<Counts, Ending>
-    ensures counts { IfOk archive.entry (λ a. IsOkAnd result (AreCountsOf a)) }
-    ensures refused { IfErr archive.entry (λ fault.
-        result ≡ Err (ending_of (FormFault.Archive fault))) }
-{
-    match archive {
-        Ok(archive) => {
-            let counts = archive_counts(&archive);
-            // (the program ends with this: to free each list by itself would only take time)
-            mem::forget(archive);
-            Ok(counts)
-        }
-        Err(fault) => Err(ending_of_form(FormFault::Archive(fault))),
-    }
-}
-
-// The same, by what the table of architectures was read as.
-fn counts_with<'a>(
-    rt: &(impl Threads + Sync),
-    alloc: Global,
-    archs: Result<Archs<'a>, ArchsFault>,
-    packages: &'a str,
-    sources: &'a str,
-) -> Result<Counts, Ending>
-    ensures counted { IfOk archs.entry (λ archs.
-        IsCountedWith (table archs) packages.now sources.now result) }
-    ensures refused { IfErr archs.entry (λ fault.
-        result ≡ Err (ending_of (FormFault.Table fault))) }
-{
-    match archs {
-        Ok(archs) => counts_of(Archive::read(rt, alloc, packages, sources, &archs)),
-        Err(fault) => Err(ending_of_form(FormFault::Table(fault))),
-    }
-}
-
-// The same, of three texts.
-fn counts_in(
-    rt: &(impl Threads + Sync),
-    alloc: Global,
-    archs: &str,
-    packages: &str,
-    sources: &str,
-) -> Result<Counts, Ending>
+// The texts that are opened: no state file is among them, and no tracker.
+fn lend<'i>(archs: &'i str, packages: IndexText<'i>, sources: IndexText<'i>) -> InputTexts<'i>
     requires { length archs.now ≤ file_limit }
-    ensures { IsCounted archs.now packages.now sources.now result }
+    ensures { texts_opened result ≡ texts_checked archs.now packages.entry sources.entry }
 {
-    counts_with(rt, alloc, Archs::read(alloc, archs), packages, sources)
+    InputTexts {
+        archs,
+        packages,
+        sources,
+        state: None,
+        tracker: None,
+    }
+}
+
+// What there is to be counted in the texts of three files.
+fn counts_in<R: Threads + Sync>(rt: &R, alloc: Global, texts: EarlyTexts) -> Result<Counts, Ending>
+    requires { IsWithin texts }
+    ensures { IsCounted (string_bytes texts.archs) texts.packages texts.sources result }
+{
+    let EarlyTexts {
+        archs,
+        packages,
+        sources,
+    } = texts;
+    let lent = lend(archs.as_str(), packages, sources);
+    let count = |opened: Opened| -> Counts
+        ensures { AreCountsOf opened.entry.archive.now result }
+    { archive_counts(opened.archive) };
+    let counted = open_texts(rt, alloc, lent, count);
+    match counted {
+        Ok(counts) => Ok(counts),
+        Err(fault) => Err(ending_of_opening(fault)),
+    }
 }
 
 fn counts_line(alloc: Global, counts: &Counts) -> Result<String, AllocError>
@@ -143,10 +126,10 @@ pub fn write<W: Writer>(line: Result<String, Ending>, output: &mut W) -> Ending
 }
 
 // How a check ends by what was read of the files.
-fn count<W: Writer>(
-    rt: &(impl Threads + Sync),
+fn count<R: Threads + Sync, W: Writer>(
+    rt: &R,
     alloc: Global,
-    read: Result<FileTexts, FileFault>,
+    read: Result<EarlyTexts, FileFault>,
     output: &mut W,
 ) -> Ending
     requires { ForOk read IsWithin }
@@ -160,19 +143,12 @@ fn count<W: Writer>(
         Ok(read) => read,
         Err(unread) => return ending_of_file(unread.role, unread.fault),
     };
-    let counted = counts_in(
-        rt,
-        alloc,
-        read.archs.as_str(),
-        read.packages.as_str(),
-        read.sources.as_str(),
-    );
-    write(line_of(alloc, counted), output)
+    write(line_of(alloc, counts_in(rt, alloc, read)), output)
 }
 
 /// Counts what the indices hold that have these paths. All is read before anything is written.
-pub fn check<T: Texts + Sync, W: Writer>(
-    rt: &(impl Threads + Sync),
+pub fn check<R: Threads + Sync, T: Texts + Sync, W: Writer>(
+    rt: &R,
     alloc: Global,
     texts: &T,
     paths: &ArchivePaths,
@@ -183,6 +159,6 @@ pub fn check<T: Texts + Sync, W: Writer>(
         (W.contents output.old) (W.contents output.new) result }
     ensures due { result ≡ Ending.CannotWrite → W.can_fail output.old ≡ true }
 {
-    let read = read_files(rt, alloc, texts, paths);
+    let read = read_early(rt, alloc, texts, paths);
     count(rt, alloc, read, output)
 }

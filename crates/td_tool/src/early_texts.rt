@@ -5,7 +5,7 @@ ghost use Rattle.td_tool.specs.Checks.{IsTextOf, archive_files_at};
 ghost use Rattle.td_tool.specs.CheckInside.{HasFailedIn};
 ghost use Rattle.td_tool.specs.TrackInside.{AreEarlyTextsIn, HasFailedFor};
 ghost use Rattle.td_tool.specs.Tracks.{file_at};
-ghost use Rattle.td_script.specs.declared.role.Role.TheVariants.{Packages, Sources};
+ghost use Rattle.td_inputs.specs.declared.role.Role.TheVariants.{Packages, Sources};
 
 use crate::file_texts::{FILE_LIMIT, FileFault, read_one};
 use crate::texts::Texts;
@@ -13,7 +13,7 @@ use std::alloc::Global;
 use std::thread::Threads;
 use std::{str, thread};
 use td_indices::IndexText;
-use td_script::Role;
+use td_inputs::Role;
 use td_words::ArchivePaths;
 
 /// The texts of the three files, those of the indices with their stanzas.

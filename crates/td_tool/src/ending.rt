@@ -3,17 +3,18 @@ ghost use Rattle.std.specs.Prelude.{◌≡◌, None, OnOk, OnErr};
 ghost use Rattle.std.specs.Io.KnownBytes.{Appends};
 ghost use Rattle.td_bytes.specs.Pieces.{AppendsPrefix};
 ghost use Rattle.td_tool.specs.Ending.{ending_of_file, ending_of_form, ending_of_simulation};
-ghost use Rattle.td_tool.specs.Ending.{ending_of_stop, ending_of_text, line_of, line_with};
-ghost use Rattle.td_tool.specs.Ending.{status_of};
+ghost use Rattle.td_tool.specs.Ending.{ending_of_opening, ending_of_stop, ending_of_text, line_of};
+ghost use Rattle.td_tool.specs.Ending.{line_with, status_of};
 
 use crate::input_fault::InputFault;
 use td_bytes::{TextFault, WriteFault, Writer, write_whole};
 use td_indices::ArchiveFault;
+use td_inputs::{FormFault, OpenFault, Role};
 use td_journal::ReadError;
 use td_query::TrackerFault;
 use td_relation::ArchsFault;
 use td_rows::StateFault;
-use td_script::{InputFault as FormFault, Role, RunFault};
+use td_script::RunFault;
 use td_simulate::SimulationFault;
 
 /// How a run of the program ends.
@@ -81,6 +82,16 @@ pub fn ending_of_form(fault: FormFault) -> Ending
         | FormFault::Tracker(TrackerFault::NoMemory)
         | FormFault::Journal(ReadError::NoMemory) => Ending::NoMemory,
         fault => Ending::BadInput(fault.role(), InputFault::Form(fault)),
+    }
+}
+
+/// How a run ends where its texts aren't opened.
+pub fn ending_of_opening(fault: OpenFault) -> Ending
+    ensures { result ≡ ending_of_opening fault }
+{
+    match fault {
+        OpenFault::Refused(fault) => ending_of_form(fault),
+        OpenFault::NoMemory => Ending::NoMemory,
     }
 }
 

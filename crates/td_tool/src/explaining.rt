@@ -24,7 +24,7 @@ use crate::wanted::{wanted, wanted_of};
 use std::alloc::Global;
 use td_bytes::{TextFault, Writer, write_whole};
 use td_explain::{Place, explain};
-use td_script::Role;
+use td_inputs::Role;
 use td_words::{ArchivePaths, Request};
 
 /// Why a refusal isn't explained.

@@ -4,14 +4,14 @@ ghost use Rattle.td_tool.specs.Checks.{IsTextOf, archive_files_at};
 ghost use Rattle.td_tool.specs.CheckInside.{AreTextsIn, HasFailedIn};
 ghost use Rattle.td_tool.specs.TrackInside.{HasFailedFor};
 ghost use Rattle.td_tool.specs.Tracks.{file_at};
-ghost use Rattle.td_script.specs.declared.role.Role.TheVariants.{Packages, Sources};
+ghost use Rattle.td_inputs.specs.declared.role.Role.TheVariants.{Packages, Sources};
 
 use crate::texts::Texts;
 use std::alloc::Global;
 use std::thread;
 use std::thread::Threads;
 use td_bytes::TextFault;
-use td_script::Role;
+use td_inputs::Role;
 use td_words::ArchivePaths;
 
 /// The longest file, in bytes.

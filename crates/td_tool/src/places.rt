@@ -14,11 +14,11 @@ ghost use Rattle.td_tool.specs.Places.{place_of as place_of_of};
 use crate::input_fault::InputFault;
 use td_explain::Place;
 use td_indices::ArchiveFault;
+use td_inputs::FormFault;
 use td_journal::ReadError;
 use td_query::TrackerFault;
 use td_relation::ArchsFault;
 use td_rows::StateFault;
-use td_script::InputFault as FormFault;
 use td_simulate::SimulationFault;
 use td_stanza::StanzaFault;
 

@@ -7,7 +7,7 @@ use crate::texts::Texts;
 use crate::track_files::read_given;
 use std::alloc::Global;
 use std::thread::Threads;
-use td_script::Role;
+use td_inputs::Role;
 use td_words::RunRequest;
 
 /// What the files of a run hold.

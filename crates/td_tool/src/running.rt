@@ -20,7 +20,8 @@ use std::thread::Threads;
 use td_board::MAX_BUILDERS;
 use td_bytes::{Reader, Writer};
 use td_crew::{CrewFault, run_crew};
-use td_script::{Inputs, Role, RunFault, ScriptEnd, run_script};
+use td_inputs::Role;
+use td_script::{Inputs, RunFault, ScriptEnd, run_script};
 use td_words::RunRequest;
 
 // How a run ends by how its script did.

@@ -8,7 +8,7 @@ use crate::file_texts::{FileFault, read_one};
 use crate::texts::Texts;
 use std::alloc::Global;
 use std::thread::Threads;
-use td_script::Role;
+use td_inputs::Role;
 use td_words::ArchivePaths;
 
 /// The paths of the files.

@@ -1,25 +1,20 @@
 //! The two subcommands that read a tracker: `track` and `waves`.
-ghost use Rattle.std.specs.Prelude.{◌≡◌, ℕ, List, None, Ok, Err, IfOk, IfErr, option_map};
-ghost use Rattle.std.specs.Prelude.{true, string_bytes};
+ghost use Rattle.std.specs.Prelude.{◌≡◌, ◌≤◌, None, Ok, Err, IfOk, IfErr, IfSome, true, length};
+ghost use Rattle.std.specs.Prelude.{string_bytes};
 ghost use Rattle.std.specs.Result.{ForOk};
-ghost use Rattle.td_relation.specs.TableView.{table};
-ghost use Rattle.td_core.specs.Phases.{NoneBuilt};
+ghost use Rattle.td_inputs.specs.Opened.{texts_of as texts_opened};
 ghost use Rattle.td_query.specs.Tracking.{IsTracker, tracking};
 ghost use Rattle.td_report.specs.Transition.{IsReport};
 ghost use Rattle.td_report.specs.TransitionView as of;
-ghost use Rattle.td_script.specs.OpeningInside.{CanReplace, IsInputRefusedIn, IsReplacedIn};
-ghost use Rattle.td_script.specs.Openings.{AreRowsOf};
 ghost use Rattle.td_tool.specs.CheckInside.{FileUnread};
-ghost use Rattle.td_tool.specs.Ending.{ending_of_form as ending_of};
-ghost use Rattle.td_tool.specs.Ending.{ending_of_stop as ending_of_stopped};
-ghost use Rattle.td_tool.specs.Tracks.{EndsSo, IsEndedBy};
-ghost use Rattle.td_tool.specs.TrackInside.{EndsWithoutRows, IsTableWithin, OrMemory, RowsAreSaid};
-ghost use Rattle.td_tool.specs.TrackInside.{Tells, TellsNone, TellsOver, TellsTexts, TellsTracker};
-ghost use Rattle.td_tool.specs.TrackInside.{TellsWith, files_at, saying_of, texts_of, texts_over};
+ghost use Rattle.td_tool.specs.Limits.{file_limit};
+ghost use Rattle.td_tool.specs.Tracks.{EndsSo, as_script};
+ghost use Rattle.td_tool.specs.TrackInside.{GivenSays, IsTableWithin, Tells, TellsTexts, files_at};
+ghost use Rattle.td_tool.specs.TrackInside.{saying_of, texts_of, texts_over};
 
 use crate::checking::write;
 use crate::early_texts::EarlyTexts;
-use crate::ending::{Ending, ending_of_file, ending_of_form, ending_of_stop};
+use crate::ending::{Ending, ending_of_file, ending_of_opening};
 use crate::file_texts::FileFault;
 use crate::texts::Texts;
 use crate::track_files::{TrackPaths, TrackTexts, TrackerTexts, read_track_files};
@@ -27,12 +22,11 @@ use std::alloc::{AllocError, Global};
 use std::mem;
 use std::thread::Threads;
 use td_bytes::Writer;
-use td_indices::{Archive, ArchiveFault, IndexText};
-use td_query::{Tracker, TrackerFault};
-use td_relation::{Archs, ArchsFault};
+use td_indices::{Archive, IndexText};
+use td_inputs::{InputTexts, Opened, given_text, open_texts};
+use td_query::Tracker;
 use td_report::Transition;
 use td_rows::Rows;
-use td_script::{InputFault as FormFault, RunFault, put_state_over};
 
 /// What is to be told of a tracker.
 #[derive(Clone, Copy, Drop)]
@@ -92,53 +86,6 @@ fn or_no_memory<A: Drop>(made: Result<A, AllocError>) -> Result<A, Ending>
     }
 }
 
-// What was made, or how a run ends where it stopped.
-fn or_ending<A: Drop>(made: Result<A, RunFault>) -> Result<A, Ending>
-    ensures ok { IfOk made (λ a. result ≡ Ok a) }
-    ensures err { IfErr made (λ fault. result ≡ Err (ending_of_stopped fault)) }
-{
-    match made {
-        Ok(made) => Ok(made),
-        Err(fault) => Err(ending_of_stop(fault)),
-    }
-}
-
-// The rows with those of a state file in the place of the ones of their keys.
-fn replaced(alloc: Global, rows: Rows, text: &str) -> Result<Rows, Ending>
-    requires { NoneBuilt rows }
-    ensures rows { IfOk result (IsReplacedIn rows text.now) }
-    ensures refused { IfErr result (OrMemory (IsEndedBy (IsInputRefusedIn rows text.now))) }
-    ensures only { IfErr result (λ ending. CanReplace rows text.now → ending ≡ Ending.NoMemory) }
-{
-    or_ending(put_state_over(alloc, rows, text))
-}
-
-// The rows with which a desk opens, with those of a text, if there is one, in their places.
-fn rows_of(alloc: Global, archive: &Archive<'_, '_>, state: &Option<String>) -> Result<Rows, Ending>
-    ensures rows { IfOk result (AreRowsOf archive.now (option_map string_bytes state.now)) }
-    ensures none { IfErr result (EndsWithoutRows archive.now (option_map string_bytes state.now)) }
-{
-    let Ok(rows) = archive.opening_rows() else {
-        return Err(Ending::NoMemory);
-    };
-    let _count = rows.len();
-    match state {
-        Some(text) => replaced(alloc, rows, text.as_str()),
-        None => Ok(rows),
-    }
-}
-
-// How a run ends: as the first does where that failed, and else so.
-fn first_told<A: Drop>(first: Result<A, Ending>, second: Ending) -> Ending
-    ensures ok { IfOk first (λ _. result ≡ second) }
-    ensures err { IfErr first (λ ending. result ≡ ending) }
-{
-    match first {
-        Ok(_) => second,
-        Err(ending) => ending,
-    }
-}
-
 // What is asked of a text's tracker over an archive and these rows.
 fn transition_says(
     rt: &(impl Threads + Sync),
@@ -157,33 +104,6 @@ fn transition_says(
     told(rt, alloc, &transition, rows, asked)
 }
 
-// What is asked of a text's tracker over an archive and its rows, of which some may be those of a
-// file.
-fn rows_say(
-    rt: &(impl Threads + Sync),
-    alloc: Global,
-    archive: &Archive<'_, '_>,
-    state: &Option<String>,
-    tracker: &Tracker<'_>,
-    text: &str,
-    asked: Asked,
-) -> Result<String, Ending>
-    requires { IsTracker text.now (tracking tracker.now) }
-    ensures found { IfOk result (λ text.
-        RowsAreSaid (saying_of asked) archive.now (option_map string_bytes state.now)
-        (tracking tracker.now) (string_bytes text)) }
-    ensures none { IfErr result (EndsWithoutRows archive.now (option_map string_bytes state.now)) }
-{
-    match rows_of(alloc, archive, state) {
-        Ok(rows) => {
-            let said = transition_says(rt, alloc, archive, &rows, tracker, text, asked);
-            mem::forget(rows);
-            or_no_memory(said)
-        }
-        Err(ending) => Err(ending),
-    }
-}
-
 // What is asked, over the rows with which a desk opens over the archive: those of the sources that
 // aren't affected say nothing, and aren't made.
 fn opening_says(
@@ -196,129 +116,68 @@ fn opening_says(
 ) -> Result<String, AllocError>
     requires { IsTracker text.now (tracking tracker.now) }
     ensures { IfOk result (λ said.
-        RowsAreSaid (saying_of asked) archive.now None (tracking tracker.now)
+        GivenSays (saying_of asked) archive.now None (tracking tracker.now)
         (string_bytes said)) }
 {
     let (transition, rows) = Transition::with_opening_rows(rt, alloc, archive, tracker, text)?;
     told(rt, alloc, &transition, &rows, asked)
 }
 
-// What is asked of a text's tracker over an archive, with or without a state file.
-fn tracker_says(
-    rt: &(impl Threads + Sync),
+// What is asked of what was opened. (A tracker is always among it.)
+fn opened_says<R: Threads + Sync>(
+    rt: &R,
     alloc: Global,
-    archive: &Archive<'_, '_>,
-    state: &Option<String>,
-    tracker: &Tracker<'_>,
-    text: &str,
+    opened: Opened<'_, '_, '_, '_, '_>,
     asked: Asked,
-) -> Result<String, Ending>
-    requires { IsTracker text.now (tracking tracker.now) }
-    ensures found { IfOk result (λ text.
-        RowsAreSaid (saying_of asked) archive.now (option_map string_bytes state.now)
-        (tracking tracker.now) (string_bytes text)) }
-    ensures none { IfErr result (EndsWithoutRows archive.now (option_map string_bytes state.now)) }
+) -> Result<String, AllocError>
+    requires { IfSome opened.tracker (λ given.
+        IsTracker given.now.text.now (tracking given.now.tracker)) }
+    ensures { IfOk result (λ said. IfSome opened.entry.tracker (λ given.
+        GivenSays (saying_of asked) opened.entry.archive.now opened.entry.rows
+        (tracking given.now.tracker) (string_bytes said))) }
 {
-    match state {
-        None => or_no_memory(opening_says(rt, alloc, archive, tracker, text, asked)),
-        Some(_) => rows_say(rt, alloc, archive, state, tracker, text, asked),
-    }
-}
-
-// The same, by what a text was read as. Rows that are refused are told of before a tracker that is.
-fn tracker_text(
-    rt: &(impl Threads + Sync),
-    alloc: Global,
-    archive: &Archive<'_, '_>,
-    state: &Option<String>,
-    tracker: Result<Tracker<'_>, TrackerFault>,
-    text: &str,
-    asked: Asked,
-) -> Result<String, Ending>
-    requires { ForOk tracker (λ t. IsTracker text.now (tracking t)) }
-    ensures said { IfOk tracker.entry (λ t. TellsTracker (saying_of asked) archive.now
-        (option_map string_bytes state.now) (tracking t) result) }
-    ensures refused { IfErr tracker.entry (λ fault. TellsNone archive.now
-        (option_map string_bytes state.now) (ending_of (FormFault.Tracker fault)) result) }
-{
-    match tracker {
-        Ok(read) => tracker_says(rt, alloc, archive, state, &read, text, asked),
-        Err(fault) => {
-            let rows = rows_of(alloc, archive, state);
-            let refused = ending_of_form(FormFault::Tracker(fault));
-            Err(first_told(rows, refused))
+    let Opened {
+        archive,
+        rows,
+        tracker,
+    } = opened;
+    let Some(given) = tracker else {
+        return Ok(String::new(alloc));
+    };
+    match rows {
+        Some(rows) => {
+            let tracker = &given.tracker;
+            let said = transition_says(rt, alloc, archive, &rows, tracker, given.text, asked);
+            mem::forget(rows);
+            said
         }
+        None => opening_says(rt, alloc, archive, &given.tracker, given.text, asked),
     }
 }
 
-// The same, over an archive, of whatever texts it is.
-fn archive_text(
-    rt: &(impl Threads + Sync),
-    alloc: Global,
-    archive: &Archive<'_, '_>,
-    over: &TrackerTexts,
-    asked: Asked,
-) -> Result<String, Ending>
-    ensures { (archs packages sources : List ℕ) → TellsOver (saying_of asked) archive.now
-        (texts_over archs packages sources over.now) result }
+// The texts that are opened.
+fn lend<'i>(
+    archs: &'i str,
+    packages: IndexText<'i>,
+    sources: IndexText<'i>,
+    over: &'i TrackerTexts,
+) -> InputTexts<'i>
+    requires { length archs.now ≤ file_limit }
+    ensures { texts_opened result
+        ≡ as_script (texts_over archs.now packages.entry sources.entry over.now) }
 {
-    let text = over.tracker.as_str();
-    let tracker = Tracker::read(alloc, text);
-    tracker_text(rt, alloc, archive, &over.state, tracker, text, asked)
-}
-
-// The same, by what two indices were read as.
-fn indices_text(
-    rt: &(impl Threads + Sync),
-    alloc: Global,
-    archive: Result<Archive<'_, '_>, ArchiveFault>,
-    over: &TrackerTexts,
-    asked: Asked,
-) -> Result<String, Ending>
-    ensures said { IfOk archive.entry (λ a. (archs packages sources : List ℕ)
-        → TellsOver (saying_of asked) a (texts_over archs packages sources over.now) result) }
-    ensures refused { IfErr archive.entry (λ fault.
-        result ≡ Err (ending_of (FormFault.Archive fault))) }
-{
-    match archive {
-        Ok(archive) => {
-            let text = archive_text(rt, alloc, &archive, over, asked);
-            // (the program ends with this: to free each list by itself would only take time)
-            mem::forget(archive);
-            text
-        }
-        Err(fault) => Err(ending_of_form(FormFault::Archive(fault))),
+    InputTexts {
+        archs,
+        packages,
+        sources,
+        state: given_text(&over.state),
+        tracker: Some(over.tracker.as_str()),
     }
 }
 
-// The same, by what the table of architectures was read as.
-fn table_text<'a>(
-    rt: &(impl Threads + Sync),
-    alloc: Global,
-    archs: Result<Archs<'a>, ArchsFault>,
-    packages: IndexText<'a>,
-    sources: IndexText<'a>,
-    over: &TrackerTexts,
-    asked: Asked,
-) -> Result<String, Ending>
-    ensures said { IfOk archs.entry (λ table_read. (archs : List ℕ)
-        → TellsWith (saying_of asked) (table table_read)
-        (texts_over archs packages.entry sources.entry over.now) result) }
-    ensures refused { IfErr archs.entry (λ fault.
-        result ≡ Err (ending_of (FormFault.Table fault))) }
-{
-    match archs {
-        Ok(archs) => {
-            let archive = Archive::of_texts(rt, alloc, packages, sources, &archs);
-            indices_text(rt, alloc, archive, over, asked)
-        }
-        Err(fault) => Err(ending_of_form(FormFault::Table(fault))),
-    }
-}
-
-// The same, of all texts.
-fn whole_text(
-    rt: &(impl Threads + Sync),
+// What is asked, of all texts.
+fn texts_say<R: Threads + Sync>(
+    rt: &R,
     alloc: Global,
     texts: TrackTexts,
     asked: Asked,
@@ -332,13 +191,24 @@ fn whole_text(
         packages,
         sources,
     } = indices;
-    let read = Archs::read(alloc, archs.as_str());
-    table_text(rt, alloc, read, packages, sources, &over, asked)
+    let lent = lend(archs.as_str(), packages, sources, &over);
+    let says = move |opened: Opened| -> Result<String, AllocError>
+        requires { IfSome opened.tracker (λ given.
+            IsTracker given.now.text.now (tracking given.now.tracker)) }
+        ensures { IfOk result (λ said. IfSome opened.entry.tracker (λ given.
+            GivenSays (saying_of asked) opened.entry.archive.now opened.entry.rows
+            (tracking given.now.tracker) (string_bytes said))) }
+    { opened_says(rt, alloc, opened, asked) };
+    let said = open_texts(rt, alloc, lent, says);
+    match said {
+        Ok(said) => or_no_memory(said),
+        Err(fault) => Err(ending_of_opening(fault)),
+    }
 }
 
 // How a run ends by what was read of the files.
-fn tell<W: Writer>(
-    rt: &(impl Threads + Sync),
+fn tell<R: Threads + Sync, W: Writer>(
+    rt: &R,
     alloc: Global,
     read: Result<TrackTexts, FileFault>,
     asked: Asked,
@@ -355,13 +225,13 @@ fn tell<W: Writer>(
         Ok(read) => read,
         Err(unread) => return ending_of_file(unread.role, unread.fault),
     };
-    write(whole_text(rt, alloc, read, asked), output)
+    write(texts_say(rt, alloc, read, asked), output)
 }
 
 /// Tells what the tracker with its path says over the archive. All is read before anything is
 /// written.
-pub fn track<T: Texts + Sync, W: Writer>(
-    rt: &(impl Threads + Sync),
+pub fn track<R: Threads + Sync, T: Texts + Sync, W: Writer>(
+    rt: &R,
     alloc: Global,
     texts: &T,
     paths: &TrackPaths<'_>,

@@ -8,11 +8,11 @@ ghost use Rattle.td_tool.specs.Wanted.{wanted_table, wanted_tracker, wanted_vers
 use crate::cause::Cause;
 use crate::input_fault::InputFault;
 use td_indices::{ArchiveFault, IndexField, RelationField, VersionField};
+use td_inputs::FormFault;
 use td_journal::ReadError;
 use td_query::{TrackerFault, TrackerKey};
 use td_relation::ArchsFault;
 use td_rows::StateFault;
-use td_script::InputFault as FormFault;
 use td_simulate::SimulationFault;
 use td_stanza::StanzaFault;
 

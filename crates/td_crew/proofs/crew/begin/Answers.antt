@@ -2,7 +2,7 @@
 use Rattle.std.proofs.Common.{◌≡◌, ℕ, List, Option, Bor, IfErr, OnOk, option_map, sym, subst}
 use Rattle.std.proofs.lemmas.Result.{on_ok_weaker}
 use Rattle.td_journal.specs.declared.journal_fault.ReadError.TheVariants.{NoMemory}
-use Rattle.td_script.specs.Openings.{IsJournalIfGiven}
+use Rattle.td_inputs.specs.Inputs.{IsJournalIfGiven}
 use Rattle.td_script.proofs.OnlyLaws.{reopen_stops}
 use Rattle.td_crew.specs.CrewText.{HasBegun}
 use Rattle.td_crew.proofs.Endings.{begun_named, begun_none}

@@ -4,7 +4,7 @@ use Rattle.std.proofs.lemmas.Result.{IfOk-weaker}
 use Rattle.td_journal.specs.declared.journal_fault.ReadError.TheVariants.{NoMemory}
 use Rattle.td_desk.specs.Names.{Origin}
 use Rattle.td_script.specs.OpeningInside.{IsJournalFault}
-use Rattle.td_script.specs.Openings.{IsJournalIfGiven}
+use Rattle.td_inputs.specs.Inputs.{IsJournalIfGiven}
 use Rattle.td_script.specs.Settings.{setting_lent}
 use Rattle.td_crew.specs.CrewText.{EndsFrom, HasBegun}
 use Rattle.td_crew.proofs.Endings.{told_begun, untold_begun}

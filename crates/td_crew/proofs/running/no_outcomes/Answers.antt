@@ -1,6 +1,7 @@
 -- A file that is refused comes before the outcomes, and what is told of them is their first bad
 -- line.
-use Rattle.td_script.specs.Openings.{texts_of, without_journal}
+use Rattle.td_script.specs.Openings.{texts_of}
+use Rattle.td_inputs.specs.Inputs.{without_journal}
 use Rattle.td_crew.specs.CrewEnds.{outcomes_of}
 use Rattle.td_crew.proofs.CrewRuns.{unread_is, unread_may, unread_only}
 use Rattle.td_crew.proofs.running.no_outcomes.Goals as goal

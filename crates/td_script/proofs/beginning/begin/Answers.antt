@@ -5,7 +5,7 @@ use Rattle.td_journal.specs.declared.journal_fault.ReadError.TheVariants.{NoMemo
 use Rattle.td_core.specs.History.{history_of}
 use Rattle.td_book.specs.Desk.{BookModel}
 use Rattle.td_book.specs.Reopening.{given_back}
-use Rattle.td_script.specs.Openings.{IsJournalIfGiven}
+use Rattle.td_inputs.specs.Inputs.{IsJournalIfGiven}
 use Rattle.td_script.proofs.OnlyLaws.{reopen_stops}
 use Rattle.td_script.proofs.beginning.begin.Goals as goal
 

@@ -1,7 +1,7 @@
 -- `tell_over`: what it answers.
 use Rattle.std.proofs.Common.{IfErr, subst}
 use Rattle.td_script.specs.OpeningInside.{Stops, TellsOrRefuses}
-use Rattle.td_script.specs.Openings.{AreReadable, Texts}
+use Rattle.td_inputs.specs.Inputs.{AreReadable, Texts}
 use Rattle.td_script.proofs.opening.tell_over.Goals as goal
 
 pub returns : goal.returns

@@ -3,7 +3,7 @@ use Rattle.std.proofs.Common.{ap, subst, ◌∙◌}
 use Rattle.std.specs.Prelude.{MatchResult}
 use Rattle.td_script.specs.Ends.{AreFine}
 use Rattle.td_script.specs.OpeningInside.{IsRefusedBy}
-use Rattle.td_script.specs.Openings.{Texts, without_journal}
+use Rattle.td_inputs.specs.Inputs.{Texts, without_journal}
 use Rattle.td_script.proofs.running.judge_files.Goals as goal
 
 pub returns-clause-fine : goal.returns-clause-fine

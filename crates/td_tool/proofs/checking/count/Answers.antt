@@ -11,5 +11,5 @@ returns-in-Err-clause-due g c = λ is.
 pub returns-clause-due : goal.returns-clause-due
 returns-clause-due g c =
     c.write.ensures.due
-    (line_unwritten _ _ _ c.counts_in-counted.result c.line_of.result c.counts_in-counted.ensures
+    (line_unwritten _ _ _ c.counts_in.result c.line_of.result c.counts_in.ensures
     c.line_of.ensures.line c.line_of.ensures.refused)

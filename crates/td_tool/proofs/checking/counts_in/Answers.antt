@@ -1,11 +1,25 @@
 -- `counts_in`: what it answers.
-use Rattle.td_relation.specs.TableView.{table}
-use Rattle.td_tool.proofs.Counting.{counted_in}
+use Rattle.std.proofs.Common.{string_bytes}
+use Rattle.td_inputs.specs.Opened.{texts_of as texts_opened}
+use Rattle.td_tool.proofs.Counting.{counted_of_opened, lent_texts, none_counted_of}
 use Rattle.td_tool.proofs.checking.counts_in.Goals as goal
+
+pub returns-in-Ok : goal.returns-in-Ok
+returns-in-Ok g c =
+    let t = c.args.texts in
+    let lent = texts_opened c.lend-lent.result in
+    counted_of_opened lent (string_bytes t.archs) t.packages t.sources c.in-Ok.counts
+    c.in-Ok.ensures.made.0
+    (lent_texts lent c.as_str.result.now (string_bytes t.archs) t.packages t.sources
+    c.lend-lent.ensures c.as_str.ensures.value)
+    c.in-Ok.ensures.made.1 c.in-Ok.ensures.made.2.1
 
 pub returns : goal.returns
 returns g c =
-    counted_in table c.args.archs.now c.args.packages.now c.args.sources.now c.read.result
-    c.counts_with.result
-    c.read.ensures.found c.read.ensures.only c.read.ensures.fault c.counts_with.ensures.counted
-    c.counts_with.ensures.refused
+    let t = c.args.texts in
+    let lent = texts_opened c.lend-lent.result in
+    none_counted_of lent (string_bytes t.archs) t.packages t.sources c.in-Err.fault
+    c.ending_of_opening.result
+    (lent_texts lent c.as_str.result.now (string_bytes t.archs) t.packages t.sources
+    c.lend-lent.ensures c.as_str.ensures.value)
+    c.in-Err.ensures.refused c.in-Err.ensures.only c.ending_of_opening.ensures

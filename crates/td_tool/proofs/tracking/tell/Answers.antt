@@ -12,8 +12,8 @@ returns-clause-texts g c =
     subst (λ r. IfOk r (λ x.
     TellsTexts (saying_of c.args.asked) (texts_of x) old new c.write.result))
     (sym c.in-Ok.is)
-    (tells_texts (saying_of c.args.asked) (texts_of c.in-Ok.read) c.whole_text.result old new
-    c.write.result c.whole_text.ensures c.write.ensures.line c.write.ensures.refused)
+    (tells_texts (saying_of c.args.asked) (texts_of c.in-Ok.read) c.texts_say.result old new
+    c.write.result c.texts_say.ensures c.write.ensures.line c.write.ensures.refused)
 
 pub returns-in-Err-clause-due : goal.returns-in-Err-clause-due
 returns-in-Err-clause-due g c = λ is.
@@ -23,4 +23,4 @@ returns-in-Err-clause-due g c = λ is.
 pub returns-clause-due : goal.returns-clause-due
 returns-clause-due g c =
     c.write.ensures.due
-    (texts_unwritten (texts_of c.in-Ok.read) c.whole_text.result c.whole_text.ensures.refused)
+    (texts_unwritten (texts_of c.in-Ok.read) c.texts_say.result c.texts_say.ensures.refused)

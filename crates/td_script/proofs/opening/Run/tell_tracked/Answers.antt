@@ -13,8 +13,9 @@ returns-in-Ok-clause-tells g c =
     let run = c.args.self.now in
     let x = texts_lent run.files in
     let y = c.in-Ok.transition in
-    let t = tracking c.args.tracker.now in
-    let is : IsTrackerOf x t = (c.args.text.now, c.requires.given, c.requires.tracker) in
+    let t = tracking c.args.given.now.tracker in
+    let is : IsTrackerOf x t =
+    (c.args.given.now.text.now, c.requires.given, c.requires.tracker) in
     tells_from (g.S.Staff.tells run.staff.now) x c.args.archive.now
     (Some (report_by y)) c.args.rows run.script.now c.tell_from-told.result
     c.tell_from-told.ensures.told c.tell_from-told.ensures.refused c.requires.archive
