@@ -1,4 +1,4 @@
--- Whether a source is affected, place by place, and all that are, by flags.
+-- Whether a source is affected, place by place, and all affected sources, by flags.
 use Rattle.std.proofs.Common.{◌≡◌, ℕ, suc, ◌+◌, Bool, false, List, [], ◌∷◌, Option}
 use Rattle.std.proofs.Common.{Some, None, filter, length, option_map, map, slice_get, refl}
 use Rattle.std.proofs.Common.{sym, ap, ◌∙◌, arith, if◌then◌else◌}
@@ -26,21 +26,21 @@ by_place : (a : Contents) (t : Tracking) (o : Option KeptSource)
 by_place a t None = any-none (range_with_len 0 (length a.table))
 by_place a t (Some s) = refl
 
--- some row has a status
+-- a source is affected if and only if some row of it has a status
 pub affected_by_place : (a : Contents) (t : Tracking) (source : ℕ) → list_any (λ place. is_some
     (status_at a t source place)) (range_with_len 0 (length a.table)) ≡ is_affected_at a t source
 affected_by_place a t source = by_place a t (slice_get a.sources source)
 
--- ---- 2. all that are
+-- ---- 2. all affected sources
 
--- flags that say what a test does are the test
+-- what the flags of a test pick out of the sources is what passes the test
 pub flagged-map : (test : KeptSource → Bool) (sources : List KeptSource)
     → flagged (map test sources) sources ≡ filter test sources
 flagged-map test [] = refl
 flagged-map test (s ∷ sources) =
     ap (λ (l : List KeptSource). if test s then s ∷ l else l) (flagged-map test sources)
 
--- a test of the sources with the numbers from one on, one after the other, is that of the sources
+-- a test by number, made of the numbers from one on, answers as the test of the sources does
 by_number : (test : KeptSource → Bool) (at : ℕ → Bool) (first : ℕ) (sources : List KeptSource)
     → ((i : ℕ) → at (first + i) ≡ option_map_or test (slice_get sources i) false)
     → map at (range_with_len first (length sources)) ≡ map test sources
@@ -71,7 +71,7 @@ flags_made test sources P numbers flags all so made =
     AllZip-map at numbers flags (answers P (λ n b. b ≡ at n) so numbers flags made)
     ∙ ap (map at) all ∙ by_number test at 0 sources (λ i. ap at (same i))
 
--- the source that was found
+-- a source that the archive shows is a kept source of the same name
 pub found : (o : Option KeptSource) (x : Source) → Some (seen_source x) ≡ option_map shown_source o
     → (s : KeptSource) × (o ≡ Some s) × (s.head.name ≡ x.name.now)
 found None x h = absurd (cc)

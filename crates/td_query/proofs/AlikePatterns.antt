@@ -23,10 +23,10 @@ pub are_read : (rs : List Regex) → AreDefault rs
 are_read [] are = tt
 are_read (r ∷ rs) are = (read_default r are.0, are_read rs are.1)
 
--- ---- 2. what its grammar reads in one text is one pattern
+-- ---- 2. what the grammar of `regex` reads in one text is one pattern
 
--- what two facts on what may be there come to. The function says alone what that is: of a text,
--- what the grammar of `regex` reads in it, for which this crate has no name
+-- what two facts on an option come to. Only the function `names` says what the option is: what the
+-- grammar of `regex` reads in a text, for which this crate has no name
 both_hold : {A B K : Type 0} {J N : K → Type 0} (o : Option A) (P Q : A → Type 0)
     → ((k : K) → J k ⊎ (o ≡ None) ⊎ N k → Unit {0}) → IsSomeAnd o P → IsSomeAnd o Q
     → ((x : A) → P x → Q x → B) → B
@@ -46,7 +46,7 @@ same_meaning text p q =
 same_read : (text : List ℕ) (a b : Re) → IsReadAs text a → IsReadAs text b → SameCaptures a b
 same_read text a b is also = rw (is.1, also.1) (same_meaning text is.0 also.0)
 
--- the patterns of the same texts, one by one
+-- the patterns that are read in the same texts match alike, one by one
 pub same_patterns : (texts : List (List ℕ)) (ps qs : List Re) → AllZip IsReadAs texts ps
     → AllZip IsReadAs texts qs → AllZip SameCaptures ps qs
 same_patterns [] [] [] are also = tt
@@ -59,7 +59,7 @@ same_patterns (text ∷ texts) (p ∷ ps) (q ∷ qs) are also =
 
 -- ---- 3. patterns that match alike are found alike
 
--- what is alike to some patterns is so to the same ones
+-- patterns that find as some others do still do so if these stay the same
 pub alike_still : {now was : List Re} (ps : List Re) → now ≡ was → AreAlike ps was → AreAlike ps now
 alike_still ps same alike = subst (λ (qs : List Re). AreAlike ps qs) (sym same) alike
 

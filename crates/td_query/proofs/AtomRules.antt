@@ -16,7 +16,7 @@ use Rattle.td_query.specs.QueryGrammar.{or_else, or_with, quote_atom, quoted, sl
 use Rattle.td_query.specs.QueryGrammar.{tilde_atom, tilded, word_atom}
 use Rattle.td_query.specs.Tokens.{is_key_byte, skipped}
 
--- without a mark in front a part is an atom
+-- a part that begins with neither a `!` nor a `(` is an atom
 at_atom : (depth : ℕ) (log : Log) (t : List ℕ) → strip (codes "!") (skipped t) ≡ None
     → strip (codes "(") (skipped t) ≡ None → not_in depth log t ≡ atom log (skipped t)
 unfolding not_in

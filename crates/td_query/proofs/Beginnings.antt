@@ -39,7 +39,7 @@ unfolding slash_atom
 closed_pattern log field left None h = absurd (false≢true h)
 closed_pattern log field left (Some p) h = refl
 
--- a `~`, no `"`, and a pattern that is closed
+-- a pattern is read after a field's name if a `~` comes, and then a pattern that is closed
 pub tilde_pattern : (log : Log) (field t u w : List ℕ) → strip (codes "~") (skipped t) ≡ Some u
     → strip (codes "\"") (skipped u) ≡ None → strip (codes "/") (skipped u) ≡ Some w
     → IsSome (pattern_in w) → IsTrue (reads_pattern (tilde_atom log field t))
@@ -66,7 +66,7 @@ unfolding IsBegun
 atom_begun zero log t h = (log, h)
 atom_begun (suc depth) log t h = inl (log, h)
 
--- behind what opens it
+-- a `!` or a `(`, and the beginning of a query after it, are the beginning of a query
 pub opened_begun : (depth less : ℕ) (t u : List ℕ) → depth ≡ suc less
     → Comes (codes "!") t u ⊎ Comes (codes "(") t u → IsBegun less u → IsBegun depth t
 unfolding IsBegun
@@ -74,7 +74,7 @@ opened_begun depth less t u is opens begun =
     let more : IsBegun (suc less) t = inr (u, opens, begun) in
     subst (λ (d : ℕ). IsBegun d t) (sym is) more
 
--- with nothing left to open
+-- with no bracket or `!` left to open, what is read begins with an atom
 at_last : (log : Log) (t : List ℕ) (o p : Option (List ℕ))
     → IsOk (or_else o (λ u. Err (length (skipped t), log))
     (or_else p (λ u. Err (length (skipped t), log)) (atom log (skipped t)))) → IsAtom t
@@ -82,7 +82,7 @@ at_last log t (Some u) p h = absurd (false≢true h)
 at_last log t None (Some u) h = absurd (false≢true h)
 at_last log t None None h = (log, h)
 
--- with something left
+-- with some bracket or `!` left to open, what is read begins as `IsBegun` says
 at_front : (depth : ℕ) → ((log : Log) (t : List ℕ) → IsOk (not_in depth log t) → IsBegun depth t)
     → (log : Log) (t : List ℕ) (o p : Option (List ℕ)) → strip (codes "!") (skipped t) ≡ o
     → strip (codes "(") (skipped t) ≡ p

@@ -10,19 +10,19 @@ use Rattle.td_query.specs.Query.{Shape}
 use Rattle.td_query.specs.QueryGrammar.{Log, Read, behind_mark, mark_of, more, next}
 use Rattle.td_query.specs.Views.{Gives}
 
--- a fault of a part is that of the whole
+-- a fault of a part is the fault of the whole
 pub fails_on : (fault : ReadFault) (log : List RawPattern) (first : Read)
     (f : Shape × Log × List ℕ → Read) (total : Read) → on_ok first f ≡ total
     → Gives (Err fault) log first → Gives (Err fault) log total
 fails_on NoMemory log first f total h e = tt
 fails_on (Syntax left) log first f total h e = sym h ∙ ap (λ r. on_ok r f) e
 
--- a part that is read
+-- if a part is read, what follows it decides
 pub goes_on : (first : Read) (x : Shape × Log × List ℕ) (f : Shape × Log × List ℕ → Read)
     (total : Read) → on_ok first f ≡ total → first ≡ Ok x → f x ≡ total
 goes_on first x f total h e = sym (ap (λ r. on_ok r f) e) ∙ h
 
--- with the mark in front there is a part more
+-- if the mark comes next, another part is read
 pub taken : (joint : Joint) (read : Log → List ℕ → Read) (n : ℕ) (parts : List Shape) (log : Log)
     (t u : List ℕ) (total : Read)
     → behind_mark (mark_of joint) t ≡ Some u → length u < length t → length t ≤ n

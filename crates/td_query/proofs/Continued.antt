@@ -1,5 +1,5 @@
--- How a text that goes wrong at some byte can go on: what stands before the byte, with something
--- else behind it, is spelled. Here is what all rules share.
+-- How a text that goes wrong at some byte can go on: what is before the byte, with something
+-- else after it, is spelled. Here is what all rules share.
 use Rattle.std.proofs.Common.{◌≡◌, ℕ, List, [], ◌∷◌, ◌++◌, length, Option, Some, None, Result, Ok}
 use Rattle.std.proofs.Common.{Err, sym, ap, subst, ◌∙◌, append_assoc, append-nil}
 use Rattle.std.specs.Str.{IsUtf8}
@@ -11,7 +11,7 @@ use Rattle.td_query.specs.Tokens.{pattern_in}
 
 -- ---- 1. what is read, and what stops
 
--- a text of characters is cut between two of them
+-- a cut of a text of characters between two of them
 abbrev pub Cuts : List ℕ → List ℕ → Type 0
 Cuts front back = IsUtf8 (front ++ back) → IsUtf8 front × IsUtf8 back
 
@@ -27,7 +27,7 @@ cuts_join a b c one two h =
     let second = two first.1 in
     (IsUtf8-append a b first.0 second.0, second.1)
 
--- behind some front
+-- a cut after a front, and a cut of what follows the front, make one of the whole
 pub cuts_behind : (a b c d : List ℕ) → d ≡ b ++ c → Cuts a d → Cuts b c → Cuts (a ++ b) c
 cuts_behind a b c d is one two =
     cuts_join a b c (subst (λ (l : List ℕ). Cuts a l) is one) two
@@ -40,7 +40,7 @@ pub record Spelled {S M : Type 0} (Good : S → Type 0)
   pub spelled : Part s t meaning after rest
   pub good : Good after
 
--- what is read stands before the rest, and is spelled before another rest too, which is free to be
+-- what is read comes before the rest, and is spelled before another rest too, which is free to be
 -- there, whatever was said before it
 pub record Moved {S M : Type 0} (Good : S → Type 0) (Free : List ℕ → Type 0)
     (Part : S → List ℕ → M → S → List ℕ → Type 0) (s : S) (t : List ℕ) (one : S)
@@ -52,24 +52,24 @@ pub record Moved {S M : Type 0} (Good : S → Type 0) (Free : List ℕ → Type 
   pub moves : Good one → (r : S) (u : List ℕ) → Good r → Free u
       → Spelled Good Part r (front ++ u) u
 
--- a pattern may be open at the end of a text: behind its slash stands this, and no slash closes it
+-- a pattern may be open at the end of a text: after its slash comes this, and no slash closes it
 abbrev pub Opened : Option (List ℕ) → List ℕ → ℕ → Type 0
 Opened None t left = Unit {0}
 Opened (Some raw) t left = (left ≡ 0) × (before : List ℕ) × (t ≡ before ++ 47 ∷ raw)
     × (pattern_in raw ≡ None)
 
--- bytes close it, as a pattern of which this is known
+-- with these bytes an open pattern, if there is one, may end, and `P` holds of it
 abbrev pub Asked : (List ℕ → Type 0) → Option (List ℕ) → List ℕ → Type 0
 Asked P None bytes = Unit {0}
 Asked P (Some raw) bytes = IsBetweenSlashes (raw ++ bytes) × P (raw ++ bytes)
 
--- a text begins with these bytes and the slash behind them, where a pattern is open, and what
--- follows is of characters
+-- if a pattern is open, a text begins with these bytes and the slash after them; what follows is of
+-- characters
 abbrev pub Closed : Option (List ℕ) → List ℕ → List ℕ → Type 0
 Closed None bytes t = IsUtf8 t
 Closed (Some raw) bytes t = (rest : List ℕ) × (t ≡ bytes ++ 47 ∷ rest) × IsUtf8 rest
 
--- what stands before the wrong byte goes on, up to a newline and whatever follows it; first with
+-- what is before the wrong byte goes on, up to a newline and whatever follows it; first with
 -- the bytes that close an open pattern, if there is one
 pub record Stopped {S M : Type 0} (Good : S → Type 0) (Legal : Log → Type 0)
     (P : List ℕ → Type 0) (Part : S → List ℕ → M → S → List ℕ → Type 0) (s : S) (t : List ℕ)
@@ -87,7 +87,7 @@ pub record Stopped {S M : Type 0} (Good : S → Type 0) (Legal : Log → Type 0)
   pub goes : Legal e.1 → (bytes : List ℕ) → Asked P inside bytes → (r : S) (u : List ℕ) → Good r
       → Spelled Good Part r (front ++ more bytes u) (10 ∷ u)
 
--- a reading does the one or the other
+-- a reading that succeeds is `Moved`, and one that fails is `Stopped`
 abbrev pub Fate : {S M Y : Type 0} → (S → Type 0) → (List ℕ → Type 0) → (Log → Type 0)
     → (List ℕ → Type 0) → (S → List ℕ → M → S → List ℕ → Type 0) → (Y → S) → (Y → List ℕ)
     → S → List ℕ → Result Y (ℕ × Log) → Type 0
@@ -96,7 +96,7 @@ Fate Good Free Legal P Part state rest s t (Ok y) =
 Fate Good Free Legal P Part state rest s t (Err e) =
     Stopped Good Legal P Part s t e
 
--- ---- 2. one behind the other
+-- ---- 2. one after the other
 
 pub opened_in : (o : Option (List ℕ)) (pre t u : List ℕ) (left : ℕ) → t ≡ pre ++ u
     → Opened o u left → Opened o t left
@@ -112,7 +112,7 @@ module _ {S M K Y : Type 0} (Good : S → Type 0) (Free : List ℕ → Type 0) (
     (P : List ℕ → Type 0)
     (One : S → List ℕ → M → S → List ℕ → Type 0) (Both : S → List ℕ → K → S → List ℕ → Type 0)
     (state : Y → S) (rest : Y → List ℕ) where
-  -- behind what stands in front
+  -- the fate of what is read after a prefix is the fate of the whole
   pub prefixed : (pre t u : List ℕ) → t ≡ pre ++ u → Cuts pre u
       → ((s after : S) (w end : List ℕ) (m : M) → One s w m after end
       → (k : K) × Both s (pre ++ w) k after end)

@@ -31,7 +31,7 @@ none_more : (x : ℕ) (o : Parts) → more x o ≡ None → o ≡ None
 none_more x None e = refl
 none_more x (Some p) e = absurd (let bad : ◌≡◌ {A = Parts} (Some (x ∷ p.0, p.1)) None = e in cc)
 
--- a byte that is no backslash and a slash close it
+-- a byte that is no backslash, and then a slash, close an open pattern
 parts_closed : (escaped : Bool) (q r : List ℕ) → parts escaped q ≡ None
     → parts escaped (q ++ 120 ∷ 47 ∷ r) ≡ Some (q ++ 120 ∷ [], r)
 parts_closed escaped [] r e = refl
@@ -51,7 +51,7 @@ between_closed q e =
     ((patterns_end (q ++ 120 ∷ 47 ∷ []) (q ++ 120 ∷ []) []).0
     (at_end false (q ++ 120 ∷ 47 ∷ []) ∙ parts_closed false q [] (sym (at_end false q) ∙ e))).1
 
--- ---- 2. behind a `~`
+-- ---- 2. after a `~`
 
 -- what is tested for in a field: a text or a pattern
 data SpellsTest (name : List ℕ) (log : Log) (t : List ℕ) (s : Shape) (after : Log)
@@ -66,7 +66,7 @@ data SpellsTest (name : List ℕ) (log : Log) (t : List ℕ) (s : Shape) (after 
       } ∷ []
       → SpellsTest name log t s after rest
 
--- between two marks
+-- a gap, a text between two marks, and the rest, put together in two ways
 enclosed : (gap : List ℕ) (x : ℕ) (raw : List ℕ) (y : ℕ) (u : List ℕ)
     → ((gap ++ x ∷ []) ++ (raw ++ y ∷ [])) ++ u ≡ gap ++ (x ∷ (raw ++ y ∷ u))
 enclosed gap x raw y u =
@@ -220,14 +220,14 @@ module _ (P : List ℕ → Type 0) (name : List ℕ) (log : Log) (t : List ℕ) 
   unfolding tested
   tested_fate = quoted_fate (strip (codes "\"") (skipped t)) refl
 
--- ---- 3. behind a dot
+-- ---- 3. after a dot
 
 -- a `~`, and what is tested for
 abbrev SpellsTilde : List ℕ → Log → List ℕ → Shape → Log → List ℕ → Type 0
 SpellsTilde name log t s after rest =
     (w : List ℕ) × Stands (codes "~") t w × SpellsTest name log w s after rest
 
--- an empty text
+-- an empty text is spelled by two `"`
 nothing : (name : List ℕ) (log : Log) (u : List ℕ)
     → SpellsTest name log (34 ∷ 34 ∷ u) (text name []) log u
 nothing name log u = test_text [] (here_stands (codes "\"") (34 ∷ u)) tt refl refl

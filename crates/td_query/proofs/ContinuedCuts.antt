@@ -1,4 +1,4 @@
--- Where a text may be cut between two characters: behind an ASCII byte.
+-- Where a text may be cut between two characters: after an ASCII byte.
 use Rattle.std.proofs.Common.{◌≡◌, ℕ, zero, suc, ◌+◌, ◌<◌, Bool, true, List, [], ◌∷◌, ◌++◌, length}
 use Rattle.std.proofs.Common.{get_or, length-append, refl, sym, ap, subst, ◌∙◌, inl, inr}
 use Rattle.std.proofs.Common.{append_assoc, nat_lt, arith}
@@ -15,7 +15,7 @@ use Rattle.td_query.specs.QuerySpelling.{IsGap, comment_gap, no_gap, space_gap}
 use Rattle.td_query.specs.Tokens.{is_key_byte}
 use Rattle.td_query.proofs.Continued.{Cuts, cuts_join, cuts_none}
 
--- ---- 1. behind a byte
+-- ---- 1. after a byte
 
 byte_there : (a : List ℕ) (x : ℕ) (b : List ℕ) → get_or (a ++ x ∷ b) (length a) 0 ≡ x
 byte_there [] x b = refl
@@ -42,7 +42,7 @@ cut_after a x b small h =
     by_length : (l : List ℕ) → length (l ++ x ∷ []) ≡ length l + 1
     by_length l = length-append l (x ∷ [])
 
--- ---- 2. behind ASCII bytes
+-- ---- 2. after ASCII bytes
 
 abbrev pub is_small : ℕ → Bool
 is_small x = nat_lt x 128
@@ -65,7 +65,7 @@ key_ascii (x ∷ word) all =
     let h = and_parts (is_key_byte x) (list_all is_key_byte word) all in
     and_from (is_small x) (list_all is_small word) (key_small x h.0) (key_ascii word h.1)
 
--- of a text of these the front is, too
+-- the front of a text of ASCII bytes is of ASCII bytes, too
 pub ascii_front : (a b : List ℕ) → list_all is_small (a ++ b) ≡ true → list_all is_small a ≡ true
 ascii_front a b all =
     (and_parts (list_all is_small a) (list_all is_small b)
@@ -76,7 +76,7 @@ ascii_back a b all =
     (and_parts (list_all is_small a) (list_all is_small b)
     (sym (list_all-append is_small a b) ∙ all)).1
 
--- ---- 3. behind whitespace and comments
+-- ---- 3. after whitespace and comments
 
 space_small : (x : ℕ) → is_space x ≡ true → x < 128
 space_small x is =
@@ -109,7 +109,7 @@ one_ascii : (x : ℕ) → x < 128 → IsAscii (x ∷ [])
 one_ascii x small zero = small
 one_ascii x small (suc i) = omega arith
 
--- behind ASCII bytes
+-- ASCII bytes, and a text of characters after them, are a text of characters
 pub utf8_after : (a u : List ℕ) → list_all is_small a ≡ true → IsUtf8 u → IsUtf8 (a ++ u)
 utf8_after [] u all h = h
 utf8_after (x ∷ a) u all h =

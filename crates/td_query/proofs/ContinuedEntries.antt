@@ -32,12 +32,12 @@ abbrev SpellsEnded : List ℕ → Said → List ℕ → Unit {0} → Said → Li
 SpellsEnded key s t one after rest =
     (end : List ℕ) × SpellsValue key s t after end × Stands (codes ";") end rest
 
--- an `=` before them
+-- an `=`, a value, and the `;` that ends it
 abbrev SpellsEqualled : List ℕ → Said → List ℕ → Unit {0} → Said → List ℕ → Type 0
 SpellsEqualled key s t one after rest = (w : List ℕ) × Stands (codes "=") t w
     × (end : List ℕ) × SpellsValue key s w after end × Stands (codes ";") end rest
 
--- and a key before it
+-- a key, an `=`, a value, and the `;` that ends it
 abbrev pub SpellsOne : Said → List ℕ → Unit {0} → Said → List ℕ → Type 0
 SpellsOne s t one after rest = SpellsEntry s t after rest
 

@@ -1,4 +1,4 @@
--- Where bytes stand in a text that goes on, with whitespace and comments between.
+-- Where bytes come in a text that goes on, with whitespace and comments between.
 use Rattle.std.proofs.Common.{◌≡◌, ◌≢◌, ℕ, true, false, List, [], ◌∷◌, ◌++◌, length, None, refl}
 use Rattle.std.proofs.Common.{sym, ap, subst, ◌∙◌, inl, inr, append_assoc, append-nil}
 use Rattle.std.specs.List.{list_all}
@@ -37,7 +37,7 @@ open_ended t h =
     subst (λ (l : List ℕ). IsGap (l ++ 10 ∷ [])) (sym h.spelled)
     (ended_gap h.gap h.words h.between h.lacks)
 
--- what stands before the first byte that isn't skipped: with a newline, whitespace and comments
+-- what is before the first byte that isn't skipped: with a newline, it is whitespace and comments
 pub record Led (t : List ℕ) : Type 0 where
   pub front : List ℕ
   pub is : t ≡ front ++ skipped t
@@ -61,9 +61,9 @@ led t =
       }
     ]
 
--- ---- 2. where bytes stand
+-- ---- 2. bytes after whitespace and comments
 
--- behind whitespace and comments that a newline ends
+-- bytes come after whitespace and comments that a newline ends
 pub gap_stands : (gap bytes u : List ℕ) → IsGap (gap ++ 10 ∷ [])
     → Stands bytes (gap ++ 10 ∷ (bytes ++ u)) u
 gap_stands gap bytes u h = record {
@@ -75,11 +75,11 @@ gap_stands gap bytes u h = record {
 pub led_stands : (t bytes u : List ℕ) → Stands bytes ((led t).front ++ 10 ∷ (bytes ++ u)) u
 led_stands t bytes u = gap_stands (led t).front bytes u (led t).gap
 
--- at the front
+-- bytes come at the front of a text that begins with them
 pub here_stands : (bytes u : List ℕ) → Stands bytes (bytes ++ u) u
 here_stands bytes u = record { gap = []; between = no_gap; spelled = refl }
 
--- before another rest
+-- bytes that come before one rest come before another, too
 pub stands_again : (bytes t v : List ℕ) (h : Stands bytes t v) (u : List ℕ)
     → Stands bytes ((h.gap ++ bytes) ++ u) u
 stands_again bytes t v h u = record {
@@ -96,7 +96,7 @@ pub stands_cut : (bytes t v : List ℕ) (h : Stands bytes t v) → list_all is_s
 stands_cut bytes t v h all =
     cuts_join h.gap bytes v (gap_cuts (bytes ++ v) h.between) (ascii_cuts bytes v all)
 
--- with more at the end
+-- bytes still come if the text has more at its end
 pub stands_more : (bytes t v : List ℕ) → Stands bytes t v → (u : List ℕ)
     → Stands bytes (t ++ u) (v ++ u)
 stands_more bytes t v h u = record {
@@ -106,7 +106,7 @@ stands_more bytes t v h u = record {
       ∙ ap (λ (l : List ℕ). h.gap ++ l) (append_assoc bytes v u);
 }
 
--- some bytes are not none
+-- a text that begins with a byte isn't empty
 pub is_filled : (x : ℕ) (word : List ℕ) → x ∷ word ≢ []
 is_filled x word e = (let bad : x ∷ word ≡ [] = e in cc)
 
@@ -126,7 +126,7 @@ gap_ends x t out no_gap = out
 gap_ends x t out (space_gap y gap is h) = space_out y is
 gap_ends x t out (comment_gap words gap none h) = refl
 
--- a word ends before what is no word
+-- a word ends before bytes whose first is no byte of a word
 pub stands_ends : (x : ℕ) (word t rest : List ℕ) → is_key_byte x ≡ false
     → Stands (x ∷ word) t rest → EndsWord t
 stands_ends x word t rest out h =

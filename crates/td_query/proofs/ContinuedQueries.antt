@@ -27,12 +27,12 @@ use Rattle.td_query.proofs.SpelledQueries.{mark_stands}
 
 -- ---- 1. chains
 
--- more parts, each behind its mark
+-- more parts, each after its mark
 abbrev SpellsTail : Joint → Rule → Log → List ℕ → List Shape → Log → List ℕ → Type 0
 SpellsTail joint Part log t shapes after rest =
     SpellsMore (mark_of joint) Part shapes log t after rest
 
--- a part, and then more
+-- a part, and then more parts, each after its mark
 abbrev SpellsParts : Joint → Rule → Log → List ℕ → Shape × List Shape → Log → List ℕ → Type 0
 SpellsParts joint Part log t m after rest = (one : Log) × (v : List ℕ) × Part log t m.0 one v
     × SpellsMore (mark_of joint) Part m.1 one v after rest
@@ -108,7 +108,7 @@ module _ (P : List ℕ → Type 0) (joint : Joint) (read : Log → List ℕ → 
   more_fate (suc n) parts log t =
       next_fate n (λ p l u. more_fate n p l u) parts log t (behind_mark (mark_of joint) t) refl
 
--- how many there may be is by what was read
+-- parts with the mark between them; what is left after the first limits how many there may be
 module _ (P : List ℕ → Type 0) (joint : Joint) (read : Log → List ℕ → Read) (Part : Rule)
     (fate : (log : Log) (t : List ℕ) → ReadFate P Part log t (read log t)) where
   some_parts : (log : Log) (t : List ℕ)
@@ -299,7 +299,7 @@ module _ (P : List ℕ → Type 0) where
   query_fate depth log t =
       any_fate P (not_in depth) (SpellsPart depth) (part_fate depth) log t
 
--- ---- 3. `true` alone
+-- ---- 3. `true` as a query
 
 -- `true` is a query before what ends a word
 pub true_query : (depth : ℕ) (log : Log) (rest : List ℕ) → EndsWord rest

@@ -1,4 +1,4 @@
--- How a tracker that goes wrong at some byte can go on: what stands before the byte begins another.
+-- How a tracker that goes wrong at some byte can go on: what is before the byte begins another.
 use Rattle.std.proofs.Common.{◌≡◌, ◌⊎◌, ℕ, zero, suc, true, List, [], ◌∷◌, ◌++◌, length}
 use Rattle.std.proofs.Common.{length-append, Option, Some, None, Result, Ok, Err, refl, sym, ap}
 use Rattle.std.proofs.Common.{subst, ◌∙◌, inl, inr, append_assoc, append-nil, arith}
@@ -36,14 +36,14 @@ use Rattle.td_query.proofs.SpelledTrackers.{Told, front_is, trackers_are_exact}
 
 -- ---- 1. the keys that a tracker needs
 
--- a text of keys, with which all three queries are said
+-- a text of keys after which all three queries are said
 record AllSaid (P : List ℕ → Type 0) (s : Said) (t : List ℕ) : Type 0 where
   after : Said
   spelled : SpellsKeys after s t
   kept : Kept P after
   all : SaysAll after
 
--- a key whose value is `true`
+-- what follows a key whose value is `true`: an `=`, the value, a `;`, and the rest
 true_behind : List ℕ → List ℕ
 true_behind rest = codes "=" ++ (codes "true" ++ (codes ";" ++ rest))
 
@@ -71,7 +71,7 @@ last_bad = codes "is_bad" ++ true_behind []
 last_good : List ℕ
 last_good = codes "is_good" ++ true_behind last_bad
 
--- all three
+-- all three keys, each with the value `true`
 last_keys : List ℕ
 last_keys = codes "is_affected" ++ true_behind last_good
 
@@ -118,8 +118,8 @@ keys_last P s ok =
 
 -- ---- 2. a whole text
 
--- what stands before the wrong byte begins a text that says all; first come the bytes that close an
--- open pattern, if there is one
+-- what is before the wrong byte begins a text that says all three queries; first come the bytes
+-- that close an open pattern, if there is one
 record Finished (P : List ℕ → Type 0) (s : Said) (t : List ℕ) (e : ℕ × Log) : Type 0 where
   begin : List ℕ
   back : List ℕ
@@ -216,7 +216,7 @@ module _ (P : List ℕ → Type 0) where
 
 -- ---- 3. the laws
 
--- fronts before as much are one
+-- two fronts of one text are the same if what follows them is of one length
 same_front : (a b c d : List ℕ) → a ++ b ≡ c ++ d → length b ≡ length d → a ≡ c
 same_front [] b [] d e l = refl
 same_front [] b (y ∷ c) d e l =
@@ -232,7 +232,7 @@ same_front (x ∷ a) b (y ∷ c) d e l =
     let later : a ++ b ≡ c ++ d = cc in
     rw first (ap (λ (l : List ℕ). y ∷ l) (same_front a b c d later l))
 
--- what a front goes on with says all
+-- a front, and what it goes on with, say all three queries
 module _ (P : List ℕ → Type 0) (first rest : List ℕ) (e : ℕ × Log) (there : length rest ≡ e.0)
     (h : Finished P nothing_said (first ++ rest) e) (legal : Fine P e.1) where
   goes_on : (bytes : List ℕ) → Asked P h.inside bytes
@@ -286,7 +286,7 @@ no_rest : (t : List ℕ) → length t ≡ 0 → t ≡ []
 no_rest [] e = refl
 no_rest (x ∷ t) e = absurd (omega arith)
 
--- by whether a pattern is open
+-- what is before the wrong byte begins a tracker, or ends inside a pattern
 module _ (first rest : List ℕ) (left : ℕ) (there : length rest ≡ left)
     (other : List ℕ → List ℕ) where
   by_pattern : (o : Option (List ℕ)) → Opened o (first ++ rest) left

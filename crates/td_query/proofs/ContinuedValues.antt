@@ -33,7 +33,7 @@ use Rattle.td_query.proofs.SpelledTrackers.{Told, is_word, not_word}
 
 -- ---- 1. readings of keys
 
--- the patterns that are kept are such
+-- `P` holds of the patterns that are kept
 abbrev pub Kept : (List ℕ → Type 0) → Said → Type 0
 Kept P s = Fine P s.log
 
@@ -204,7 +204,7 @@ module _ (P : List ℕ → Type 0) (key : List ℕ) (s : Said) (t : List ℕ) wh
 
 -- ---- 4. titles, and other keys
 
--- each pattern is something
+-- nothing is asked of a pattern
 abbrev pub Any : List ℕ → Type 0
 Any raw = Unit {0}
 
@@ -212,7 +212,7 @@ pub any_fine : (log : Log) → Fine Any log
 any_fine [] = tt
 any_fine (r ∷ log) = (tt, any_fine log)
 
--- so a byte and a slash close an open one
+-- a byte and a slash close an open pattern of which nothing else is asked
 pub any_asked : (o : Option (List ℕ)) (t : List ℕ) (left : ℕ) → Opened o t left
     → Asked Any o (120 ∷ [])
 any_asked None t left h = tt
@@ -339,7 +339,7 @@ module _ (P : List ℕ → Type 0) (key : List ℕ) (s : Said) (t : List ℕ) wh
 
 -- ---- 5. some value
 
--- each key has a value that may stand behind its `=`
+-- a value that may come after the key's `=`
 pub record HasValue (P : List ℕ → Type 0) (key : List ℕ) : Type 0 where
   pub value : List ℕ
   pub small : list_all is_small value ≡ true

@@ -27,7 +27,7 @@ use Rattle.td_query.proofs.SpelledAtoms.{Given}
 
 -- ---- 1. readings of queries
 
--- what stands between the slashes of each pattern is such
+-- `P` holds of what is between the slashes of each pattern
 abbrev pub Fine : (List ℕ → Type 0) → Log → Type 0
 Fine P log = AllByRecursion (λ (r : Raw). P r.raw) log
 
@@ -71,7 +71,7 @@ common_front (x ∷ w) (y ∷ v) =
       | inr other ↦ rw other.0 refl
     ]
 
--- the word that this one begins, and so how it goes on
+-- the word, `true` or `false`, that the right bytes of this one begin
 record IsBegun (word : List ℕ) : Type 0 where
   answer : Bool
   is : take (begun word) word ++ drop (begun word) (constant_text answer) ≡ constant_text answer
@@ -119,7 +119,7 @@ module _ (P : List ℕ → Type 0) (log : Log) (t : List ℕ) where
     };
   }
 
-  -- where no atom may stand, or none does, `true` may
+  -- a text that goes wrong before any byte of an atom can go on with `true`
   pub true_missing : Stopped (Fine P) (Fine P) P SpellsAtom log t (length (skipped t), log)
   true_missing = record {
     front = (led t).front;

@@ -1,4 +1,4 @@
--- Atoms in front of two texts that are the same up to and with some byte.
+-- Atoms at the front of two texts that are the same up to and with some byte.
 use Rattle.std.proofs.Common.{◌≡◌, ◌≢◌, ℕ, suc, ◌≤◌, Bool, true, false}
 use Rattle.std.proofs.Common.{cond}
 use Rattle.std.proofs.Common.{not, eqb, ◌&&◌, List, [], ◌∷◌, ◌++◌, length, length-append}
@@ -96,7 +96,7 @@ tilde_short : (log : Log) (field t : List ℕ)
 unfolding tilde_atom
 tilde_short log field t = tilded_short log field (skipped t) (strip (codes "~") (skipped t)) refl
 
--- by whether a name is there
+-- no more than `n` is left, whether a name is there or not
 by_name_short : (wrong n : ℕ) (log : Log) (r : Read) (k : Bool) → wrong ≤ n → left_in after r ≤ n
     → left_in after (cond k (Err (wrong, log)) r) ≤ n
 by_name_short wrong n log r true low short = low
@@ -124,7 +124,7 @@ atom_short log t = dotted_short log t (strip (codes ".") t) refl
 
 -- ---- 2. what is closed
 
--- both are cut ahead of the byte, at one place; or the byte is passed in the one
+-- both texts are cut ahead of the byte, at one place; or the first is cut after it, or nowhere
 pub data IsCut (x : ℕ) (a b : List ℕ) (o p : Option (List ℕ × List ℕ)) : Type 0 where
   cut_ahead : (front v w : List ℕ) → o ≡ Some (front, v) → p ≡ Some (front, w) → Ahead x a b v w
       → IsCut x a b o p

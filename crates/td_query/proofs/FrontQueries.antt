@@ -1,4 +1,4 @@
--- Queries in front of two texts that are the same up to and with some byte.
+-- Queries at the front of two texts that are the same up to and with some byte.
 use Rattle.std.proofs.Common.{◌≡◌, ℕ, zero, suc, ◌≤◌, List, []}
 use Rattle.std.proofs.Common.{◌∷◌}
 use Rattle.std.proofs.Common.{◌++◌, length, Option, Some, None, Ok, Err, refl}

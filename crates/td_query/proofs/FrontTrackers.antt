@@ -1,5 +1,5 @@
--- Keys in front of two texts that are the same up to and with some byte: a wrong byte stays wrong
--- whatever follows it.
+-- Keys at the front of two texts that are the same up to and with some byte: a wrong byte stays
+-- wrong whatever follows it.
 use Rattle.std.proofs.Common.{◌≡◌, ◌≢◌, ℕ, zero, suc, ◌≤◌, Bool, true, false, cond}
 use Rattle.std.proofs.Common.{eqb}
 use Rattle.std.proofs.Common.{List, [], ◌∷◌, ◌++◌, length, length-append, Option, Some, None}
@@ -28,7 +28,7 @@ use Rattle.td_query.proofs.Fronts.{goes, goes_near, left_in, other_room, past, s
 use Rattle.td_query.proofs.Fronts.{skip_less, skipped_near, wrong, wrong_at}
 use Rattle.td_query.proofs.SpelledTrackers.{Told, entry_found, entry_room, front_is, front_some}
 
--- what follows what was said
+-- what follows the keys that were read
 abbrev behind_said : Told → List ℕ
 behind_said y = y.1
 
@@ -126,7 +126,7 @@ by_name_short : (k : Bool) (m n : ℕ) (log : Log) (r : SaidRead) → m ≤ n
 by_name_short true m n log r low short = low
 by_name_short false m n log r low short = short
 
--- the value of the key that stands in front
+-- the value of the key at the front
 abbrev valued : Said → List ℕ → SaidRead
 valued s t = equalled (run is_key_byte t) s (length (skipped (behind is_key_byte t)))
     (strip (codes "=") (skipped (behind is_key_byte t)))

@@ -1,4 +1,4 @@
--- Words in front of two texts that are the same up to and with some byte.
+-- Words at the front of two texts that are the same up to and with some byte.
 use Rattle.std.proofs.Common.{◌≡◌, ℕ, ◌+◌, ◌-◌, ◌≤◌, Bool, true, false}
 use Rattle.std.proofs.Common.{cond}
 use Rattle.std.proofs.Common.{eqb, max, List, [], ◌∷◌, ◌++◌, length, length-append}
@@ -51,7 +51,7 @@ word_short log t =
 
 -- ---- 2. runs
 
--- a run of both ends at one byte ahead, or goes on behind the byte
+-- the run of both texts ends ahead of the byte, at one place, or goes on after the byte
 pub data IsRun (x : ℕ) (a b t u : List ℕ) : Type 0 where
   stops_ahead : run is_key_byte u ≡ run is_key_byte t
       → Ahead x a b (behind is_key_byte t) (behind is_key_byte u) → IsRun x a b t u
@@ -170,7 +170,7 @@ begun_less t =
     let other = common_less t (codes "false") in
     omega arith
 
--- a word that leaves both before the byte is neither
+-- a word that leaves another one at the byte or before it isn't the other one
 no_word : (front n word : List ℕ) (x : ℕ) → common_len (front ++ x ∷ n) word ≤ length front
     → bytes_eq (front ++ x ∷ n) word ≡ false
 no_word front n word x low = by (bytes_eq (front ++ x ∷ n) word) refl
@@ -216,7 +216,7 @@ module _ (x : ℕ) (a b : List ℕ) (log kept : Log) where
             ∙ sym (append_assoc (drop (begun word) word) h.front (x ∷ b));
       }) (omega arith) (omega arith)
 
-  -- the word goes on behind the byte, and is wrong before it
+  -- the word goes on after the byte, and is wrong at it or before it
   wrong_words : (t u front m n v : List ℕ) → t ≡ front ++ x ∷ a → u ≡ front ++ x ∷ b
       → begun (front ++ x ∷ m) ≤ length front
       → Follow x a b after (Err (length t - begun (front ++ x ∷ m), log))

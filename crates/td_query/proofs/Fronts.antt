@@ -1,4 +1,4 @@
--- What is read in front of two texts that are the same up to and with some byte.
+-- What is read at the front of two texts that are the same up to and with some byte.
 use Rattle.std.proofs.Common.{◌≡◌, ◌⊎◌, ℕ, suc, ◌≤◌, Bool, true, false, cond}
 use Rattle.std.proofs.Common.{not}
 use Rattle.std.proofs.Common.{eqb, List, [], ◌∷◌, ◌++◌, length, length-append, Option, Some, None}
@@ -12,17 +12,17 @@ use Rattle.td_query.proofs.QueryRules.{skipped_short}
 
 -- ---- 1. the two texts
 
--- both are the same up to and with a byte, which the one has before this, and the other before that
+-- two texts are the same up to and with a byte, after which the first has `a` and the second `b`
 pub record Ahead (x : ℕ) (a b t u : List ℕ) : Type 0 where
   pub front : List ℕ
   pub one : t ≡ front ++ x ∷ a
   pub other : u ≡ front ++ x ∷ b
 
--- or the byte is passed in the one
+-- two texts are the same up to and with the byte, or the first is already after it
 abbrev pub Near : ℕ → List ℕ → List ℕ → List ℕ → List ℕ → Type 0
 Near x a b t u = Ahead x a b t u ⊎ (length t ≤ length a)
 
--- both begin with one byte
+-- two texts begin with the same byte
 pub record IsFirst (x : ℕ) (a b t u : List ℕ) : Type 0 where
   pub byte : ℕ
   pub v : List ℕ
@@ -99,12 +99,12 @@ module _ (x : ℕ) (a b : List ℕ) where
 
 -- ---- 2. what is read of them
 
--- how much is left, behind whitespace and comments where something is read
+-- how much is left: after whitespace and comments if something is read, else at the wrong byte
 abbrev pub left_in : {Y : Type 0} → (Y → List ℕ) → Result Y (ℕ × Log) → ℕ
 left_in rest (Ok y) = length (skipped (rest y))
 left_in rest (Err e) = e.0
 
--- what is read of the other follows what is read of the one
+-- what is read of the second text follows what is read of the first
 pub data Follow {Y : Type 0} (x : ℕ) (a b : List ℕ) (rest : Y → List ℕ)
     (r s : Result Y (ℕ × Log)) : Type 0 where
   -- both are read, and the byte is ahead
@@ -113,7 +113,7 @@ pub data Follow {Y : Type 0} (x : ℕ) (a b : List ℕ) (rest : Y → List ℕ)
   -- both are wrong at one byte
   wrong : (d e : ℕ × Log) → r ≡ Err d → s ≡ Err e → (front : List ℕ)
       → d.0 ≡ length (front ++ x ∷ a) → e.0 ≡ length (front ++ x ∷ b) → Follow x a b rest r s
-  -- the byte is passed in the one
+  -- the byte is passed in the first text
   past : left_in rest r ≤ length a → Follow x a b rest r s
 
 pub short_chain : {Y Z : Type 0} (rest : Y → List ℕ) (last : Z → List ℕ) (r : Result Y (ℕ × Log))
@@ -136,7 +136,7 @@ module _ (x : ℕ) (a b : List ℕ) {Y : Type 0} (rest : Y → List ℕ) where
       wrong d e refl refl h.front (one ∙ ap (λ (l : List ℕ). length l) h.one)
       (other ∙ ap (λ (l : List ℕ). length l) h.other)
 
-  -- with a mark in front of both, or of neither
+  -- both texts begin with the mark, or neither does
   pub by_mark : (f g : Option (List ℕ) → Result Y (ℕ × Log)) (m : ℕ) (mark t u : List ℕ)
       → mark ≡ m ∷ [] → IsFirst x a b t u → Follow x a b rest (f None) (g None)
       → ((v w : List ℕ) → suc (length v) ≤ length t → suc (length w) ≤ length u

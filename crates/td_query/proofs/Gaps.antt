@@ -28,7 +28,7 @@ gap_skipped t (comment_gap words gap none h) =
     ap (λ (l : List ℕ). skipped (35 ∷ l)) (append_assoc words (10 ∷ gap) t)
     ∙ comments_are_skipped words (gap ++ t) none ∙ gap_skipped t h
 
--- what comes after it is what isn't skipped
+-- the bytes after a gap are the first that aren't skipped
 pub stands_comes : (x : ℕ) (word t rest : List ℕ) → is_space x ≡ false → x ≢ 35
     → Stands (x ∷ word) t rest → skipped t ≡ (x ∷ word) ++ rest
 stands_comes x word t rest space hash h =
@@ -47,13 +47,13 @@ stands_room bytes t rest h =
 
 -- ---- 2. what is skipped is a gap
 
--- what is skipped is closed: a gap, and then what isn't skipped
+-- a text that is a gap, and then what isn't skipped
 pub record IsFronted (t : List ℕ) : Type 0 where
   pub gap : List ℕ
   pub between : IsGap gap
   pub spelled : t ≡ gap ++ skipped t
 
--- or the text ends in an open comment
+-- a text that is skipped as a whole, and ends in an open comment
 pub record IsOpen (t : List ℕ) : Type 0 where
   pub none : skipped t ≡ []
   pub gap : List ℕ
@@ -84,7 +84,7 @@ cut_lacks c (x ∷ t) e =
           (other.1, cut_lacks c t (none_left x (cut c t) left)))
     ]
 
--- what is skipped with a comment
+-- a comment is skipped up to the end of its line
 hash_skipped : (t : List ℕ) (o : Option (List ℕ × List ℕ)) → cut 10 t ≡ o
     → skipped (35 ∷ t) ≡ skipped_all (option_map (λ (p : List ℕ × List ℕ). p.1) o)
 unfolding skipped_in
@@ -119,7 +119,7 @@ module _ (x : ℕ) (t : List ℕ) where
     spelled = sym (others_are_kept x t space hash);
   })
 
--- behind a comment
+-- if what follows a comment is fronted or open, the comment with it is, too
 commented : (t words u : List ℕ) → t ≡ words ++ 10 ∷ u → Without 10 words
     → skipped (35 ∷ t) ≡ skipped u → IsFronted u ⊎ IsOpen u
     → IsFronted (35 ∷ t) ⊎ IsOpen (35 ∷ t)

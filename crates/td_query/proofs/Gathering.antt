@@ -8,7 +8,7 @@ use Rattle.td_text.proofs.Anywhere.{any-push}
 use Rattle.td_query.specs.declared.mark.Mark.{Mark}
 use Rattle.td_query.specs.Marks.{either_mark, gathered}
 
--- of a flag of a mark, one number more
+-- a flag of a mark, gathered over one number more
 one-more : (own : Bool) (f : ℕ → Bool) (ns : List ℕ) (i : ℕ) → i < length ns
     → ((own || list_any f (take i ns)) || f (get_or ns i 0)) ≡ (own || list_any f (take (i + 1) ns))
 one-more own f ns i h =

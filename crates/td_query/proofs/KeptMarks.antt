@@ -9,7 +9,7 @@ use Rattle.td_query.specs.declared.mark.Mark.{Mark}
 use Rattle.td_query.specs.Marks.{MarkBetween, mark_by}
 use Rattle.td_query.specs.Tracking.{Tracking}
 
--- with the mark of one stanza more
+-- the marks of some stanzas and the mark of the next are those of one stanza more
 pub marks-more : {fields : List Entry} {new : List Mark} {m : Mark} (patterns : List Re)
     (t : Tracking) (all : List (List Entry)) (from i : ℕ) (old : List Mark)
     → slice_get all i ≡ Some fields → MarkBetween (mark_by patterns t) all from i old

@@ -56,7 +56,7 @@ disjunctions patterns fields s t = (
   or_from (truth patterns fields s) (truth patterns fields t),
 )
 
--- ---- 3. of a field
+-- ---- 3. fields
 
 at_value : (f : List ℕ → Bool) (o : Option (List ℕ))
     → IsTrue (option_map_or f o false) ↔ ((value : List ℕ) × (o ≡ Some value) × IsTrue (f value))
@@ -174,7 +174,7 @@ from_standing : (t value : List ℕ) (i : ℕ) → 0 < length t → StandsAt t v
 from_standing t value i some s = found_at t value i some (omega (arith, s.within))
     (from_place t value i s)
 
--- a value that doesn't have the text at all
+-- a text isn't found in a value that doesn't have it at all
 pub has_nowhere : (t value : List ℕ) → ¬ HasSubslice value t → stands_in t value ≡ false
 has_nowhere t value none = by (stands_in t value) refl
   where

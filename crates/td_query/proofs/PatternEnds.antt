@@ -14,11 +14,11 @@ use Rattle.td_query.specs.Tokens.{pattern_end}
 abbrev pub Parts : Type 0
 Parts = Option (List ℕ × List ℕ)
 
--- one byte more in front
+-- the two parts, with one byte more at the front of the first
 abbrev pub more : ℕ → Parts → Parts
 more x o = option_map (λ p. (x ∷ p.0, p.1)) o
 
--- what stands before the slash and behind it; the test says whether a backslash stands before
+-- what is before the closing slash and after it; the flag says if a backslash is before the text
 abbrev pub parts : Bool → List ℕ → Parts
 parts escaped [] = None
 parts escaped (x ∷ t) =
@@ -43,9 +43,9 @@ at_end escaped (x ∷ t) = by (eqb x 47 && not escaped) (at_end (eqb x 92) t)
     by true h = refl
     by false h = at_next x t (pattern_end (eqb x 92) t) ∙ ap (more x) h
 
--- ---- 2. what stands before it
+-- ---- 2. what is before the slash
 
--- a backslash stands last, or before nothing
+-- a text ends in a backslash, or it is empty and comes after one
 abbrev Escaped : Bool → List ℕ → Type 0
 Escaped escaped t = ((t ≡ []) × (escaped ≡ true)) ⊎ EndsInBackslash t
 
@@ -54,7 +54,7 @@ IsBetween escaped raw =
     ((front back : List ℕ) → raw ≡ front ++ 47 ∷ back → Escaped escaped front)
     × (Escaped escaped raw → ⊥)
 
--- behind one byte more
+-- a text whose end is escaped stays so with one byte more at its front
 ends_later : (escaped : Bool) (x : ℕ) (t : List ℕ) → Escaped (eqb x 92) t → Escaped escaped (x ∷ t)
 ends_later escaped x t (inl h) =
     elim (eqb_tells x 92) [
@@ -64,7 +64,7 @@ ends_later escaped x t (inl h) =
 ends_later escaped x t (inr h) =
     let same : x ∷ t ≡ (x ∷ h.0) ++ 92 ∷ [] = ap (λ (l : List ℕ). x ∷ l) h.1 in inr (x ∷ h.0, same)
 
--- and without it
+-- a text whose end is escaped stays so without its first byte
 ends_sooner : (escaped : Bool) (x : ℕ) (t : List ℕ) → Escaped escaped (x ∷ t) → Escaped (eqb x 92) t
 ends_sooner escaped x t (inl h) = absurd (let no : x ∷ t ≡ [] = h.0 in cc)
 ends_sooner escaped x t (inr ([], is)) =
@@ -75,7 +75,7 @@ ends_sooner escaped x t (inr ([], is)) =
 ends_sooner escaped x t (inr (y ∷ front, is)) =
     let rest : t ≡ front ++ 92 ∷ [] = cc in inr (front, rest)
 
--- a byte that doesn't close
+-- a byte that closes no pattern may come before what is between slashes
 between_more : (escaped : Bool) (x : ℕ) (raw : List ℕ) → (eqb x 47 && not escaped) ≡ false
     → IsBetween (eqb x 92) raw → IsBetween escaped (x ∷ raw)
 between_more escaped x raw goes is = (
@@ -199,7 +199,7 @@ joined escaped (x ∷ raw) rest is =
     rw (goes_on escaped x raw is)
     (ap (more x) (joined (eqb x 92) raw rest (between_less escaped x raw is)))
 
--- ---- 4. with nothing before it
+-- ---- 4. patterns with no backslash before them
 
 plain : (t : List ℕ) → Escaped false t → EndsInBackslash t
 plain t (inl h) = absurd (false≢true h.1)

@@ -19,7 +19,7 @@ ArePatterns-push : (log : Log) (r : Raw) → ArePatterns log → IsPattern defau
 ArePatterns-push [] r h p = (p, tt)
 ArePatterns-push (x ∷ log) r h p = (h.0, ArePatterns-push log r h.1 p)
 
--- one pattern more
+-- if the grammar reads the patterns so far and the next, it reads all up to that one
 pub more : (log : List RawPattern) (i : ℕ) (d : RawPattern) → i < length log
     → ArePatterns (map raw_of (take i log)) → IsPattern default_config
     (source_of (raw_of (get_or log i d))) → ArePatterns (map raw_of (take (i + 1) log))
@@ -43,7 +43,7 @@ sources_more log i d rs ss r h pushed so_far here =
       here,
     ) refl
 
--- one that is compiled more
+-- if the patterns so far and one more are as `Regex::new` gives them, all are
 AreDefault-push : (rs : List Regex) (r : Regex) → AreDefault rs
     → IsDefault r → AreDefault (rs ++ r ∷ [])
 AreDefault-push [] r h p = (p, tt)
@@ -53,7 +53,7 @@ pub compiled_more : (rs ss : List Regex) (r : Regex) → ss ≡ rs ++ r ∷ [] �
     → IsDefault r → AreDefault ss
 compiled_more rs ss r pushed h p = rw pushed (AreDefault-push rs r h p)
 
--- the first that is refused
+-- the first pattern that is refused
 pub refused_here : (size : ℕ) (log : List RawPattern) (i : ℕ) (d : RawPattern) (place : ℕ)
     → i < length log → ArePatterns (map raw_of (take i log))
     → IsRefusedForCause (source_of (raw_of (get_or log i d))) → place ≡ size - (get_or log i d).left

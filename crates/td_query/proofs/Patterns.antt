@@ -17,13 +17,13 @@ moved_on : (i : ℕ) (o : Option ℕ) → moved i (option_map (λ n. n + 1) o) �
 moved_on i None = refl
 moved_on i (Some n) = ap (λ (m : ℕ). Some m) (omega arith)
 
--- a slash that closes
+-- a slash that isn't escaped ends a pattern
 pub ends_here : (t : List ℕ) (i : ℕ) → i < length t → get_or t i 0 ≡ 47
     → moved i (pattern_end false (drop i t)) ≡ Some i
 unfolding pattern_end
 ends_here t i h e = rw (drop-cons t i 0 h, e) (ap (λ (m : ℕ). Some m) (omega arith))
 
--- another byte
+-- any other byte is passed, and what follows it decides
 pub goes_on : (escaped : Bool) (t : List ℕ) (i : ℕ) → i < length t
     → (eqb (get_or t i 0) 47 && not escaped) ≡ false → moved i (pattern_end escaped (drop i t))
     ≡ moved (i + 1) (pattern_end (eqb (get_or t i 0) 92) (drop (i + 1) t))
@@ -31,13 +31,13 @@ unfolding pattern_end
 goes_on escaped t i h e = rw (drop-cons t i 0 h, e, add-one)
     (moved_on i (pattern_end (eqb (get_or t i 0) 92) (drop (suc i) t)) ∙ rw add-one refl)
 
--- no byte is left
+-- if no byte is left, no slash ends the pattern
 pub ends_never : (escaped : Bool) (t : List ℕ) (i : ℕ) → drop i t ≡ []
     → moved i (pattern_end escaped (drop i t)) ≡ None
 unfolding pattern_end
 ends_never escaped t i e = rw e refl
 
--- what doesn't close: a slash behind a backslash, and another byte
+-- what doesn't close a pattern: a slash after a backslash, and another byte
 pub escaped_on : (x : ℕ) (escaped : Bool) → escaped ≡ true → (eqb x 47 && not escaped) ≡ false
 escaped_on x escaped e =
     rw e (elim (eqb x 47) as (λ b. (b && false) ≡ false) [ true ↦ refl | false ↦ refl ])
@@ -45,11 +45,11 @@ escaped_on x escaped e =
 pub other_on : (x : ℕ) (escaped : Bool) → x ≢ 47 → (eqb x 47 && not escaped) ≡ false
 other_on x escaped h = rw (ne_eqb x 47 h) refl
 
--- behind the first bytes, before a slash
+-- a text may be cut before a slash
 pub boundary_at_slash : (t : List ℕ) (i : ℕ) → i < length t → get_or t i 0 ≡ 47 → IsCharBoundary t i
 boundary_at_slash t i h e = IsCharBoundary-before_ascii t i h (omega arith)
 
--- and behind that slash
+-- a text that begins with a slash may be cut after it
 pub boundary_behind_slash : (t rest : List ℕ) (i : ℕ) → IsUtf8 t → i < length t → get_or t i 0 ≡ 47
     → rest ≡ drop i t → IsCharBoundary rest 1
 boundary_behind_slash t rest i utf8 h e back =

@@ -6,13 +6,13 @@ use Rattle.std.proofs.lemmas.Bool.Decides.{eqb_tells}
 use Rattle.std.proofs.Math.Bool.{or-true, and-false}
 use Rattle.td_query.specs.Standing.{any_below, stands_at, stands_in}
 
--- none so far, and not here
+-- a test that holds of no number below i, nor of i, holds of none below i + 1
 pub below_next : (test : ℕ → Bool) (i : ℕ) → any_below test i ≡ false → test i ≡ false
     → any_below test (i + 1) ≡ false
 unfolding any_below
 below_next test i none here = rw (add-one, none) here
 
--- some place is found
+-- a test that holds of some i below n is found below n
 pub below_found : (test : ℕ → Bool) (n i : ℕ) → i < n → test i ≡ true → any_below test n ≡ true
 unfolding any_below
 below_found test zero i h e = absurd (omega arith)

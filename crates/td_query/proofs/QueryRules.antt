@@ -170,14 +170,14 @@ skipped_short false (x ∷ t) =
     (suc (length t)) (omega arith)
     (if_short (eqb x 35) (skipped_in true t) (x ∷ t) (suc (length t)) (omega arith) (omega arith))
 
--- a part is of some bytes
+-- no part is read of an empty text
 nothing_read : (depth : ℕ) (log after : Log) (s : Shape) (rest : List ℕ)
     → not_in depth log [] ≡ Ok (s, after, rest) → ⊥
 unfolding not_in atom word_atom strip skipped_in
 nothing_read zero log after s rest h = false≢true (ap (λ (r : Read). is_ok r) h)
 nothing_read (suc depth) log after s rest h = false≢true (ap (λ (r : Read). is_ok r) h)
 
--- so a mark and a part behind it are two at least
+-- a mark and a part after it have two bytes at least
 mark_and_part : (mark : ℕ) (depth : ℕ) (log after : Log) (t u rest : List ℕ) (s : Shape)
     → Comes (mark ∷ []) t u → not_in depth log u ≡ Ok (s, after, rest) → 2 ≤ length t
 mark_and_part mark depth log after t [] rest s here h =

@@ -31,7 +31,7 @@ use Rattle.td_query.specs.Truth.{truth}
 -- ---- 1. a query on the stanzas of a row
 
 module _ (a : Contents) (patterns : List Re) (query : Shape) (place : ℕ) where
-  -- on the stanza of a package that is there
+  -- whether a package is there, and the query holds on its stanza
   abbrev is_on_it : KeptBinary → Bool
   is_on_it b = is_on place b.head.home && truth patterns (package_fields a b) query
 
@@ -101,7 +101,7 @@ none_at : (a : Contents) (t : Tracking) (place : ℕ) (o : Option KeptSource)
 none_at a t place None h = refl
 none_at a t place (Some s) h = rw h refl
 
--- a source without a row there
+-- a source has no status on an architecture on which it has no row
 pub status_nowhere : (a : Contents) (t : Tracking) (source place : ℕ)
     → has_row_at a source place ≡ false → None ≡ status_at a t source place
 status_nowhere a t source place h = none_at a t place (slice_get a.sources source) h

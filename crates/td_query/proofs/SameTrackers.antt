@@ -21,7 +21,7 @@ use Rattle.td_query.proofs.AlikePatterns.{alike_all, same_patterns}
 
 -- ---- 1. a text is of one tracker
 
--- what the text says is one thing
+-- what a text says is the same by both of its trackers
 same_said : (file : List ℕ) (t u : Tracking) (is : IsTracker file t) (also : IsTracker file u)
     → also.says ≡ is.says
 same_said file t u is also =
@@ -56,7 +56,7 @@ trackers_are_one file t u is also =
       patterns = match_alike file t u is also;
     }
 
--- ---- 2. there is one
+-- ---- 2. a tracker is there
 
 each_read : (log : Log) → ArePatterns log → (ps : List Re) × AllZip IsReadAs (map source_of log) ps
 each_read [] are = ([], tt)
@@ -91,7 +91,7 @@ trackers_are_there file s affected good bad said is_affected is_good is_bad are 
       },
     )
 
--- ---- 3. a query holds by both
+-- ---- 3. a query holds by both trackers, or by neither
 
 module _ (ps qs : List Re) (alike : AreAlike ps qs) (fields : List Entry)
     (bytes : HaveBytes fields) where
@@ -114,16 +114,16 @@ trackers_hold_alike file t u is also fields bytes query =
     sym (hold_alike t.patterns u.patterns
     (alike_all t.patterns u.patterns (match_alike file t u is also)) fields bytes query)
 
--- ---- 4. they mark alike
+-- ---- 4. both trackers mark alike
 
--- with the same patterns, they mark each stanza alike
+-- with the same patterns, two trackers of one text mark each stanza alike
 pub same_marks : (file : List ℕ) (t u : Tracking) → IsTracker file t → IsTracker file u
     → (patterns : List Re) → mark_by patterns u ≡ mark_by patterns t
 same_marks file t u is also patterns =
     let same : IsSameTracker t u = trackers_are_one file t u is also in
     rw (same.affected, same.good, same.bad) refl
 
--- and their patterns are found alike
+-- the patterns of two trackers of one text are found alike
 pub alike_patterns : (file : List ℕ) (t u : Tracking) → IsTracker file t → IsTracker file u
     → AreAlike t.patterns u.patterns
 alike_patterns file t u is also =

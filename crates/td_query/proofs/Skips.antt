@@ -1,4 +1,4 @@
--- Whitespace and comments in front of a text.
+-- Whitespace and comments at the front of a text.
 use Rattle.std.proofs.Common.{◌≡◌, ℕ, Bool, true, false, eqb, List, [], ◌∷◌, Option, Some, None}
 use Rattle.std.proofs.Common.{option_map, refl, sym, ap, ◌∙◌, one-add, subst, inl, inr}
 use Rattle.std.specs.Borrow.{Bor}
@@ -14,7 +14,7 @@ abbrev pub skipped_left : Option (Bor (List ℕ)) → List ℕ
 skipped_left None = []
 skipped_left (Some t) = skipped t.now
 
--- the same, without where it lies in memory
+-- what is left of a text, once it is skipped, without where it lies in memory
 abbrev pub skipped_all : Option (List ℕ) → List ℕ
 skipped_all None = []
 skipped_all (Some t) = skipped t
@@ -41,7 +41,7 @@ comment (x ∷ t) =
     same None = refl
     same (Some p) = refl
 
--- ---- what stands behind whitespace
+-- ---- what comes after whitespace
 
 abbrev pub by_hash : List ℕ → Option (List ℕ) → List ℕ
 by_hash at None = at
@@ -79,12 +79,12 @@ behind_space (x ∷ t) = by (is_space x) refl (behind_space t)
     by false e h = skipped-stop x t e ∙ ap (λ (u : List ℕ). by_hash u (strip (35 ∷ []) u))
         (sym (trimmed-stop x t e))
 
--- nothing more is skipped
+-- nothing more is skipped after whitespace if no comment begins there
 pub skipped_here : (t at : List ℕ) → at ≡ trimmed t → strip (35 ∷ []) at ≡ None → skipped t ≡ at
 skipped_here t at e h = behind_space t ∙ ap (λ (u : List ℕ). by_hash u (strip (35 ∷ []) u)) (sym e)
     ∙ ap (by_hash at) h
 
--- a comment is skipped
+-- a comment after whitespace is skipped up to the end of its line
 pub skipped_on : (t at c : List ℕ) → at ≡ trimmed t → strip (35 ∷ []) at ≡ Some c
     → skipped t ≡ skipped_all (line_behind c)
 skipped_on t at c e h = behind_space t ∙ ap (λ (u : List ℕ). by_hash u (strip (35 ∷ []) u)) (sym e)

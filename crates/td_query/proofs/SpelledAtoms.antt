@@ -197,7 +197,7 @@ word_found log t y e =
     (bytes_eq (run is_key_byte (skipped t)) (codes "false"))
     (length (skipped t) - begun (run is_key_byte (skipped t)), log) refl refl e
 
--- behind the name of a field
+-- what is read after the name of a field is spelled
 module _ (log : Log) (t u name v : List ℕ) (y : Given) (dot : Stands (codes ".") t u)
     (whole : u ≡ name ++ v) (legal : IsKey name) (ends : EndsWord v) where
   field_spelled : (w : List ℕ) → Stands (codes "~") v w → SpellsField name t w

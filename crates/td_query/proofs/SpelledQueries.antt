@@ -41,7 +41,7 @@ mark_room : (joint : Joint) (t u : List ℕ) → Stands (mark_of joint) t u → 
 mark_room And t u h = let room = stands_room (codes "&") t u h in omega arith
 mark_room Or t u h = let room = stands_room (codes "|") t u h in omega arith
 
--- behind a bar stands no `&`, nor behind a bracket or a `;`
+-- neither mark comes if another byte does
 over_at : (x : ℕ) (t u : List ℕ) → skipped t ≡ x ∷ u → strip (codes "&") (x ∷ u) ≡ None
     → strip (codes "|") (x ∷ u) ≡ None → IsOver t
 unfolding behind_mark
@@ -58,7 +58,7 @@ over_at_semicolon t u h =
 
 -- ---- 2. chains
 
--- what comes after the parts doesn't go on with an `&`
+-- what comes after parts that `|` joins doesn't go on with an `&`
 abbrev Goes : Joint → List ℕ → Type 0
 Goes And t = Unit {0}
 Goes Or t = behind_mark (codes "&") t ≡ None
@@ -135,7 +135,7 @@ module _ (joint : Joint) (read : Log → List ℕ → Read) (Part : Rule)
 
 -- ---- 3. what is spelled is read
 
--- parts are read, and leave no more than there was
+-- what a rule spells is read, and leaves no more than there was
 pub record AreRead (read : Log → List ℕ → Read) (Part : Rule) : Type 0 where
   pub reads : (log after : Log) (t rest : List ℕ) (s : Shape) → Part log t s after rest
       → read log t ≡ Ok (s, after, rest)
@@ -169,7 +169,7 @@ module _ (read : Log → List ℕ → Read) (Part : Rule) (h : AreRead read Part
   any_room log after t rest s spelled =
       joined_room Or (and_with read) (SpellsAll Part) all_read all_room log after t rest s spelled
 
--- one level deeper
+-- a part with one bracket or `!` more left to open
 abbrev pub Level : ℕ → Log → List ℕ → Shape → Log → List ℕ → Type 0
 Level depth log t s after rest = SpellsAtom log t s after rest
     ⊎ (SpellsNot (SpellsPart depth) log t s after rest
@@ -229,7 +229,7 @@ query_room depth log after t rest s spelled =
 
 -- ---- 4. what is read is spelled
 
--- what was read so far, and what is read behind it
+-- what was read so far, and what is read after it
 pub record IsTail (joint : Joint) (Part : Rule) (done : List Shape) (log : Log) (t : List ℕ)
     (y : Given) : Type 0 where
   pub shapes : List Shape

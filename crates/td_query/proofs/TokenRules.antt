@@ -1,4 +1,4 @@
--- What may stand between tokens.
+-- What may be between tokens.
 use Rattle.std.proofs.Common.{ℕ, List, ◌∷◌, ◌++◌, Option, option_map, refl, ap, ◌∙◌}
 use Rattle.std.proofs.lemmas.Bool.{ne_eqb}
 use Rattle.td_text.proofs.Cut.{cut-at, cut_none}
@@ -7,7 +7,7 @@ use Rattle.td_query.specs.TokenRules.{SpacesAreSkipped}
 use Rattle.td_query.specs.Tokens.{skipped_in}
 use Rattle.td_query.proofs.Skips.{comment, skipped_all, skipped-space}
 
--- the line behind a comment
+-- what is left after the newline that ends a comment, once it is skipped
 line_of : Option (List ℕ × List ℕ) → List ℕ
 line_of o = skipped_all (option_map (λ (p : List ℕ × List ℕ). p.1) o)
 

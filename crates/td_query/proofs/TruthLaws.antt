@@ -14,7 +14,7 @@ use Rattle.td_query.specs.Truth.{truth}
 use Rattle.td_query.specs.inner.Settling.{settling}
 
 module _ (patterns : List Re) (fields : List Entry) where
-  -- a part, and what the parts behind it come to
+  -- what a part and the parts after it come to
   abbrev both : Joint → Bool → Bool → Bool
   both And a b = a && b
   both Or a b = a || b
@@ -50,7 +50,7 @@ module _ (patterns : List Re) (fields : List Entry) where
       rw (drop-cons parts i q h, ← is, add-one)
       (first joint (shape_of q) (map shape_of (drop (suc i) parts)))
 
-  -- a part that settles it
+  -- a part that settles the answer gives it
   pub part_settles : (joint : Joint) (parts : List Query) (i : ℕ) (q : Query) → i < length parts
       → q ≡ get_or parts i q → hold joint (drop i parts) ≡ hold joint parts
       → truth patterns fields (shape_of q) ≡ settling joint → settling joint ≡ hold joint parts
@@ -59,7 +59,7 @@ module _ (patterns : List Re) (fields : List Entry) where
       ∙ ap (λ (b : Bool). both joint b (hold joint (drop (i + 1) parts))) e
       ∙ settled joint (hold joint (drop (i + 1) parts)))
 
-  -- a part that doesn't
+  -- a part that doesn't settle the answer leaves it to the parts after it
   pub part_passes : (joint : Joint) (parts : List Query) (i : ℕ) (q : Query) → i < length parts
       → q ≡ get_or parts i q → hold joint (drop i parts) ≡ hold joint parts
       → truth patterns fields (shape_of q) ≡ not (settling joint)
@@ -69,7 +69,7 @@ module _ (patterns : List Re) (fields : List Entry) where
       ∙ ap (λ (b : Bool). both joint b (hold joint (drop (i + 1) parts))) (sym e)
       ∙ sym (next joint parts i q h is) ∙ decides
 
-  -- no part is left
+  -- if no part is left, no part has settled the answer
   pub parts_done : (joint : Joint) (parts : List Query) (i : ℕ) → length parts ≤ i
       → hold joint (drop i parts) ≡ hold joint parts → not (settling joint) ≡ hold joint parts
   parts_done joint parts i h decides =

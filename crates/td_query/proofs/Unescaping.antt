@@ -25,7 +25,7 @@ unescaped_plain [] w = refl
 unescaped_plain (x ∷ t) w =
     rw (and_right (eqb x 92) (begins_slash t) (begins_other t w.1), unescaped_plain t w.1) refl
 
--- before a slash
+-- a piece that comes before a slash loses a backslash at its end
 pub unescaped_piece : (p b : List ℕ) → Without 47 p
     → unescaped (p ++ 47 ∷ b) ≡ without_last p ++ 47 ∷ unescaped b
 unfolding unescaped without_last

@@ -1,4 +1,4 @@
--- Where no mark of a source and of its packages is `affected`, the source isn't.
+-- If no mark of a source and of its packages is `affected`, the source isn't.
 use Rattle.std.proofs.Common.{◌≡◌, ℕ, ◌&&◌, Bool, true, false, List, [], ◌∷◌, Option, Some}
 use Rattle.std.proofs.Common.{None, get_or, length, map, option_map, slice_get, refl, sym, ap, ◌∙◌}
 use Rattle.std.proofs.Common.{zero, suc, inl, inr}
@@ -23,7 +23,7 @@ use Rattle.td_query.specs.Tracking.{Tracking}
 use Rattle.td_query.specs.Truth.{truth}
 use Rattle.td_query.proofs.AffectedSources.{found}
 
--- ---- 1. of lists
+-- ---- 1. lists
 
 -- what passes a narrower test passes the wider one
 any-fewer : {A : Type 0} (f g : A → Bool) (xs : List A) → ((x : A) → g x ≡ false → f x ≡ false)
@@ -42,16 +42,16 @@ any-never : {A : Type 0} (f : A → Bool) (xs : List A) → ((x : A) → f x ≡
 any-never f [] e = refl
 any-never f (x ∷ xs) e = rw (e x) (any-never f xs e)
 
--- ---- 2. of marks
+-- ---- 2. marks
 
--- the mark with a number, of those that items have
+-- the mark with a number is the mark of the item with the number
 pub mark_found : {A : Type 0} (f : A → Mark) (xs : List A) (k : ℕ) (marks : List Mark)
     → marks ≡ map f xs → get_or marks k no_mark ≡ option_map_or f (slice_get xs k) no_mark
 mark_found f [] k marks e = rw e refl
 mark_found f (x ∷ xs) zero marks e = rw e refl
 mark_found f (x ∷ xs) (suc k) marks e = rw e (mark_found f xs k (map f xs) refl)
 
--- ---- 3. of a row
+-- ---- 3. rows
 
 module _ (a : Contents) (t : Tracking) (m : Marks) (of : AreMarks a t m) where
   -- whether the query `affected` holds on the stanza of the package with a number

@@ -7,7 +7,7 @@ use Rattle.td_query.specs.QueryGrammar.{Log}
 use Rattle.td_query.specs.QueryRules.{Comes, IsPart}
 use Rattle.td_query.specs.Tokens.{is_key_byte, pattern_in, skipped}
 
--- this word stands in front, with none of a key's bytes behind it, and then the rest
+-- a text begins with this word, with none of a key's bytes after it, and then comes the rest
 abbrev pub IsWord : List ℕ → List ℕ → List ℕ → Type 0
 IsWord word t rest = (run is_key_byte t ≡ word) × (behind is_key_byte t ≡ rest)
 
@@ -21,7 +21,7 @@ abbrev pub FalseIsRead : Type 0
 FalseIsRead = (depth : ℕ) (log : Log) (t rest : List ℕ) → IsWord (codes "false") (skipped t) rest
     → IsPart depth log t (always false) log rest
 
--- a dot stands in front, right behind it a field's name, then a `~`, and then the rest
+-- first comes a dot, right after it a field's name, then a `~`, and then the rest
 abbrev pub IsTested : List ℕ → List ℕ → List ℕ → Type 0
 IsTested name t rest = (u : List ℕ) × (v : List ℕ) × Comes (codes ".") t u × IsWord name u v
     × (0 < length name) × Comes (codes "~") v rest

@@ -26,26 +26,25 @@ WrongBytesAreFinal = (front rest other : List ℕ) (x : ℕ) (log : Log)
     → said_in (front ++ x ∷ rest) ≡ Err (suc (length rest), log)
     → (kept : Log) × (said_in (front ++ x ∷ other) ≡ Err (suc (length other), kept))
 
--- ---- 2. what stands before it
+-- ---- 2. what is before the wrong byte
 
 -- the keys say all three queries
 abbrev pub SaysAll : Said → Type 0
 SaysAll s = IsSome s.affected × IsSome s.good × IsSome s.bad
 
--- a wrong byte never stands inside a character: what stands before it is of characters, if the text
--- is
+-- a wrong byte is never inside a character: what is before it is of characters, if the text is
 abbrev pub RightBytesAreText : Type 0
 RightBytesAreText = (front rest : List ℕ) (log : Log)
     → said_in (front ++ rest) ≡ Err (length rest, log) → IsUtf8 (front ++ rest) → IsUtf8 front
 
--- what stands before a wrong byte, or before the end of a text that ends too early, begins a text
--- that is read and says all three queries; it goes on with characters
+-- what is before a wrong byte, or before the end of a text that ends too early, begins a text that
+-- is read and says all three queries; it goes on with characters
 abbrev pub RightBytesGoOn : Type 0
 RightBytesGoOn = (front rest : List ℕ) (log : Log)
     → said_in (front ++ rest) ≡ Err (length rest, log)
     → (other : List ℕ) × IsUtf8 other × (s : Said) × (said_in (front ++ other) ≡ Ok s) × SaysAll s
 
--- A text ends inside a pattern: behind the pattern's opening `/` stands this much of it, and no `/`
+-- A text ends inside a pattern: after the pattern's opening `/` comes this much of it, and no `/`
 -- that closes it. Whatever makes it a pattern that `regex` reads makes the text go on to a tracker
 pub record IsInPattern (text : List ℕ) : Type 0 where
   pub before : List ℕ
@@ -57,8 +56,8 @@ pub record IsInPattern (text : List ℕ) : Type 0 where
       → (other : List ℕ) × (t : Tracking) × IsUtf8 other
       × IsTracker (text ++ (bytes ++ (codes "/" ++ other))) t
 
--- what stands before a wrong byte begins a tracker. So does a text that ends too early, if it
--- doesn't end inside a pattern; there it depends on the pattern
+-- what is before a wrong byte begins a tracker. So does a text that ends too early, if it doesn't
+-- end inside a pattern; inside a pattern it depends on that
 abbrev pub RightBytesAreOfTrackers : Type 0
 RightBytesAreOfTrackers = (front rest : List ℕ) → FaultOf (front ++ rest) (Syntax (length front))
     → ((other : List ℕ) × (t : Tracking) × IsUtf8 other × IsTracker (front ++ other) t)

@@ -8,8 +8,8 @@ use Rattle.td_query.specs.QueryRules.{Comes}
 use Rattle.td_query.specs.Tokens.{skipped}
 use Rattle.td_query.specs.TrackerGrammar.{Said, entry_at, value_at}
 
--- a query under a key that needs one is said by it, in place of an earlier one, and nothing else
--- changes but the patterns
+-- a key that needs a query says this query, in place of an earlier one; otherwise only the patterns
+-- change
 pub record SaysQueries (s : Said) (t : List ℕ) (query : Shape) (log : Log)
     (rest : List ℕ) : Type 0 where
   pub affected : value_at (codes "is_affected") s t
@@ -17,12 +17,12 @@ pub record SaysQueries (s : Said) (t : List ℕ) (query : Shape) (log : Log)
   pub good : value_at (codes "is_good") s t ≡ Ok (record s { good = Some query; log = log }, rest)
   pub bad : value_at (codes "is_bad") s t ≡ Ok (record s { bad = Some query; log = log }, rest)
 
--- so it is, where a value is read as a query
+-- if a value is read as a query, a key that needs a query says it
 abbrev pub QueriesAreSaid : Type 0
 QueriesAreSaid = (s : Said) (t : List ℕ) (query : Shape) (log : Log) (rest : List ℕ)
     → or_at 100 s.log t ≡ Ok (query, log, rest) → SaysQueries s t query log rest
 
--- a title is what stands between two `"`, in place of an earlier one
+-- the title is what is between two `"`, in place of an earlier one
 abbrev pub TitlesAreSaid : Type 0
 TitlesAreSaid = (s : Said) (t u title rest : List ℕ) → skipped t ≡ codes "\"" ++ u
     → cut 34 u ≡ Some (title, rest)

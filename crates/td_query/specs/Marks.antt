@@ -24,7 +24,7 @@ mark_by patterns t fields = record {
   bad = truth patterns fields t.bad;
 }
 
--- the same with the tracker's own
+-- which of the queries hold on a stanza's fields, with the tracker's own patterns
 abbrev pub mark_on : Tracking → List Entry → Mark
 mark_on t fields = mark_by t.patterns t fields
 
@@ -33,8 +33,8 @@ abbrev pub kept_fields : Contents → IndexFile → List (List Entry)
 kept_fields a Packages = map (package_fields a) a.binaries
 kept_fields a Sources = map (source_fields a) a.sources
 
--- with those of the first ones before them, up to a number, the marks are those of the first ones
--- up to another
+-- the marks of the stanzas before a number, and then these marks, are the marks of the stanzas
+-- before another number
 abbrev pub MarkBetween : (List Entry → Mark) → List (List Entry) → ℕ → ℕ → List Mark → Type 0
 MarkBetween mark stanzas from to marks =
     map mark (take from stanzas) ++ marks ≡ map mark (take to stanzas)
@@ -46,11 +46,11 @@ pub record AreMarks (a : Contents) (t : Tracking) (m : Marks) : Type 0 where
 
 -- ---- the parts of a row's mark
 
--- nothing holds
+-- the mark by which no query holds
 abbrev pub no_mark : Mark
 no_mark = record { affected = false; good = false; bad = false }
 
--- what holds on one or the other
+-- the queries that hold by one mark or the other
 abbrev pub either_mark : Mark → Mark → Mark
 either_mark m n = record {
   affected = m.affected || n.affected;
@@ -59,14 +59,14 @@ either_mark m n = record {
       || n.bad;
 }
 
--- what holds on the stanza of the package with a number,
--- where it is on the architecture at a place or of `all`
+-- which queries hold on the stanza of the package with a number,
+-- if it is on the architecture at a place or of `all`
 abbrev pub mark_there : Contents → List Re → Tracking → ℕ → ℕ → Mark
 mark_there a patterns t place number =
     option_map_or (λ b. if is_on place b.head.home then mark_by patterns t (package_fields a b)
     else no_mark) (slice_get a.binaries number) no_mark
 
--- a mark, and what holds for some of these numbers
+-- which queries hold by a mark, or by the mark of one of these numbers
 abbrev pub gathered : Mark → (ℕ → Mark) → List ℕ → Mark
 gathered own marks numbers = record {
   affected = own.affected || list_any (λ n. (marks n).affected) numbers;
@@ -74,7 +74,7 @@ gathered own marks numbers = record {
   bad = own.bad || list_any (λ n. (marks n).bad) numbers;
 }
 
--- what holds on some stanza of the row of the source with a number on the architecture at a place
+-- which queries hold on some stanza of the row of a source on an architecture, both by number
 abbrev pub row_mark : Contents → List Re → Tracking → ℕ → ℕ → Mark
 row_mark a patterns t source place =
     option_map_or

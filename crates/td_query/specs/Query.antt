@@ -21,7 +21,7 @@ abbrev pub all_from : Shape → List Shape → Shape
 all_from x [] = x
 all_from x (y ∷ ys) = both x (all_from y ys)
 
--- one part stands for itself
+-- what `&` makes of parts; a part by itself stays as it is
 abbrev pub all_of : List Shape → Shape
 all_of [] = always true
 all_of (x ∷ xs) = all_from x xs
@@ -31,7 +31,7 @@ abbrev pub any_from : Shape → List Shape → Shape
 any_from x [] = x
 any_from x (y ∷ ys) = either x (any_from y ys)
 
--- one part stands for itself
+-- what `|` makes of parts; a part by itself stays as it is
 abbrev pub any_of : List Shape → Shape
 any_of [] = always false
 any_of (x ∷ xs) = any_from x xs

@@ -11,8 +11,8 @@ use Rattle.td_query.specs.declared.query.Joint.TheVariants.{And, Or}
 use Rattle.td_query.specs.Query.{Shape, always, text, pattern, negated, joined}
 use Rattle.td_query.specs.Tokens.{skipped, is_key_byte, common_len, pattern_in}
 
--- a pattern as it stands in a text:
--- how much of the text is left at its opening `/`, and what stands between its slashes
+-- a pattern as it is in a text:
+-- how much of the text is left at its opening `/`, and what is between its slashes
 pub record Raw : Type 0 where
   pub left : ℕ
   pub raw : List ℕ
@@ -28,11 +28,11 @@ Read = Result (Shape × Log × List ℕ) (ℕ × Log)
 
 -- ---- 1. atoms
 
--- how many bytes of a word `true` or `false` has in front
+-- how many bytes a word has in common with the beginning of `true` or `false`
 abbrev pub begun : List ℕ → ℕ
 begun word = max (common_len word (codes "true")) (common_len word (codes "false"))
 
--- `true` or `false`; another word is wrong at the first byte that leaves both
+-- `true` or `false`; another word is wrong at the first byte that continues neither
 unfoldable pub word_atom : Log → List ℕ → Read
 word_atom log at =
     if bytes_eq (run is_key_byte at) (codes "true")
@@ -56,17 +56,17 @@ slash_atom log field left (Some p) = Ok (
   p.1,
 )
 
--- a pattern behind its opening `/`, if there is one
+-- a pattern after its opening `/`, if there is one
 abbrev pub slashed : Log → List ℕ → ℕ → Option (List ℕ) → Read
 slashed log field left None = Err (left, log)
 slashed log field left (Some t) = slash_atom log field left (pattern_in t)
 
--- a text behind its opening `"`, or else a pattern
+-- a text after its opening `"`, or else a pattern
 abbrev pub quoted : Log → List ℕ → List ℕ → Option (List ℕ) → Read
 quoted log field at None = slashed log field (length at) (strip (codes "/") at)
 quoted log field at (Some t) = quote_atom log field (cut 34 t)
 
--- what stands behind a `~`
+-- what comes after a `~`
 unfoldable pub tested : Log → List ℕ → List ℕ → Read
 tested log field t = quoted log field (skipped t) (strip (codes "\"") (skipped t))
 
@@ -75,16 +75,16 @@ abbrev pub tilded : Log → List ℕ → ℕ → Option (List ℕ) → Read
 tilded log field left None = Err (left, log)
 tilded log field left (Some t) = tested log field t
 
--- what stands behind the name of a field
+-- what comes after the name of a field
 unfoldable pub tilde_atom : Log → List ℕ → List ℕ → Read
 tilde_atom log field t = tilded log field (length (skipped t)) (strip (codes "~") (skipped t))
 
--- what stands behind a dot: the name of a field, right behind it
+-- what comes after a dot: the name of a field, right after it
 unfoldable pub field_atom : Log → List ℕ → Read
 field_atom log t = if length (run is_key_byte t) == 0 then Err (length t, log)
     else tilde_atom log (run is_key_byte t) (behind is_key_byte t)
 
--- a field behind its dot, or else a word
+-- a field after its dot, or else a word
 abbrev pub dotted : Log → List ℕ → Option (List ℕ) → Read
 dotted log at None = word_atom log at
 dotted log at (Some t) = field_atom log t
@@ -95,7 +95,7 @@ atom log at = dotted log at (strip (codes ".") at)
 
 -- ---- 2. `!`, `&`, `|` and brackets
 
--- what follows a mark, where it stands in front
+-- what follows a mark, if the mark comes first
 unfoldable pub behind_mark : List ℕ → List ℕ → Option (List ℕ)
 behind_mark mark t = strip mark (skipped t)
 
@@ -104,11 +104,11 @@ abbrev pub closed_by : Shape → Log → ℕ → Option (List ℕ) → Read
 closed_by shape log left None = Err (left, log)
 closed_by shape log left (Some t) = Ok (shape, log, t)
 
--- behind what stands in brackets
+-- a query in brackets, with the `)` after it
 unfoldable pub closed : Shape × Log × List ℕ → Read
 closed x = closed_by x.0 x.1 (length (skipped x.2)) (strip (codes ")") (skipped x.2))
 
--- behind a `!`
+-- what comes after a `!`, negated
 abbrev pub negating : Shape × Log × List ℕ → Read
 negating x = Ok (negated x.0, x.1, x.2)
 
@@ -122,14 +122,14 @@ abbrev pub mark_of : Joint → List ℕ
 mark_of And = codes "&"
 mark_of Or = codes "|"
 
--- the parts so far, and with the mark in front the next
+-- the parts so far, and the next one if the mark comes first
 abbrev pub next : Joint → (Log → List ℕ → Read) → (List Shape → Log → List ℕ → Read) → List Shape
     → Log → List ℕ → Option (List ℕ) → Read
 next joint read more parts log t None = Ok (joined joint parts, log, t)
 next joint read more parts log t (Some u) =
     on_ok (read log u) (λ x. more (parts ++ x.0 ∷ []) x.1 x.2)
 
--- {mark part} behind the parts so far, at most so many
+-- {mark part} after the parts so far, at most this many times
 unfoldable pub more : Joint → (Log → List ℕ → Read) → ℕ → List Shape → Log → List ℕ → Read
 more joint read zero parts log t = Ok (joined joint parts, log, t)
 more joint read (suc n) parts log t = next joint read (more joint read n) parts log t
@@ -148,7 +148,7 @@ and_with read log t = parts_with And read log t
 unfoldable pub or_with : (Log → List ℕ → Read) → Log → List ℕ → Read
 or_with read log t = parts_with Or (and_with read) log t
 
--- "!" not | "(" or ")" | atom, with so many brackets and `!` left to open
+-- "!" not | "(" or ")" | atom, with this many brackets and `!` left to open
 unfoldable pub not_in : ℕ → Log → List ℕ → Read
 not_in zero log t =
     or_else (strip (codes "!") (skipped t)) (λ u. Err (length (skipped t), log))
@@ -159,12 +159,12 @@ not_in (suc depth) log t =
     (or_else (strip (codes "(") (skipped t)) (λ u. on_ok (or_with (not_in depth) log u) closed)
     (atom log (skipped t)))
 
--- what an `&` joins, with so many brackets and `!` left to open: an atom, or what stands in
--- brackets or behind a `!`
+-- what an `&` joins, with this many brackets and `!` left to open: an atom, or what is in
+-- brackets or after a `!`
 abbrev pub not_at : ℕ → Log → List ℕ → Read
 not_at depth log t = not_in depth log t
 
--- what a mark joins: `&` these, `|` also several of them with `&` between
+-- what a mark joins: `&` joins parts, and `|` also several of them with `&` between
 abbrev pub part_at : Joint → ℕ → Log → List ℕ → Read
 part_at And depth log t = not_in depth log t
 part_at Or depth log t = and_with (not_in depth) log t
@@ -173,6 +173,6 @@ part_at Or depth log t = and_with (not_in depth) log t
 abbrev pub parts_at : Joint → ℕ → Log → List ℕ → Read
 parts_at joint depth log t = parts_with joint (part_at joint depth) log t
 
--- a query, with so many brackets and `!` left to open
+-- a query, with this many brackets and `!` left to open
 abbrev pub or_at : ℕ → Log → List ℕ → Read
 or_at depth log t = or_with (not_in depth) log t

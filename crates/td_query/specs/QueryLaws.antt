@@ -35,23 +35,23 @@ abbrev pub DisjunctionsAreOr : Type 0
 DisjunctionsAreOr = (patterns : List Re) (fields : List Entry) (s t : Shape)
     → Holds patterns fields (either s t) ↔ (Holds patterns fields s ⊎ Holds patterns fields t)
 
--- ---- 2. of a field
+-- ---- 2. fields
 
--- where no field has the name, in whatever case, no text and no pattern matches
+-- if no field has the name, in whatever case, no text and no pattern matches
 abbrev pub AbsentFieldsNeverMatch : Type 0
 AbsentFieldsNeverMatch = (patterns : List Re) (fields : List Entry) (name : List ℕ) →
     ((f : Entry) → Contains fields f → is_same_name name f.name ≡ false) →
     ((t : List ℕ) → ¬ Holds patterns fields (text name t))
     × ((number : ℕ) → ¬ Holds patterns fields (pattern name number))
 
--- a text matches exactly where it isn't empty and stands in the field's value, at some place,
+-- a text matches if and only if it isn't empty and is in the field's value, at some place,
 -- bounded on both sides
 abbrev pub TextsMatchWhereTheyStand : Type 0
 TextsMatchWhereTheyStand = (patterns : List Re) (fields : List Entry) (name t : List ℕ) →
     Holds patterns fields (text name t) ↔ ((value : List ℕ) × (value_of fields name ≡ Some value)
     × (0 < length t) × (i : ℕ) × StandsAt t value i)
 
--- a pattern matches exactly where `regex` finds it in the field's value
+-- a pattern matches if and only if `regex` finds it in the field's value
 abbrev pub PatternsMatchWhereTheyAreFound : Type 0
 PatternsMatchWhereTheyAreFound = (patterns : List Re) (fields : List Entry) (name : List ℕ)
     (number : ℕ) →

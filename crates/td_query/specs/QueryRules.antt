@@ -5,26 +5,26 @@ use Rattle.td_query.specs.Query.{Shape, negated, both, either}
 use Rattle.td_query.specs.QueryGrammar.{Log, behind_mark, not_in, or_at}
 use Rattle.td_query.specs.Tokens.{skipped}
 
--- with so many brackets and `!` left to open, a text begins with what `&` joins: this query, with
--- these patterns before it and behind it, and what follows
+-- with this many brackets and `!` left to open, a text begins with a part that `&` joins: this
+-- query, with these patterns before it and after it, and then comes the rest
 abbrev pub IsPart : ℕ → Log → List ℕ → Shape → Log → List ℕ → Type 0
 IsPart depth log t s after rest = not_in depth log t ≡ Ok (s, after, rest)
 
--- the same of a whole query
+-- with this many brackets and `!` left to open, a text begins with this query, then comes the rest
 abbrev pub IsWhole : ℕ → Log → List ℕ → Shape → Log → List ℕ → Type 0
 IsWhole depth log t s after rest = or_at depth log t ≡ Ok (s, after, rest)
 
--- behind whitespace and comments stand these bytes, and then the rest
+-- after whitespace and comments come these bytes, and then the rest
 abbrev pub Comes : List ℕ → List ℕ → List ℕ → Type 0
 Comes bytes t rest = skipped t ≡ bytes ++ rest
 
--- neither mark does
+-- neither mark comes after whitespace and comments
 abbrev pub IsOver : List ℕ → Type 0
 IsOver t = (behind_mark (codes "&") t ≡ None) × (behind_mark (codes "|") t ≡ None)
 
 -- ---- 1. parts
 
--- `!` negates the part behind it
+-- `!` negates the part after it
 abbrev pub NegationsAreRead : Type 0
 NegationsAreRead = (depth : ℕ) (log after : Log) (t u rest : List ℕ) (s : Shape)
     → Comes (codes "!") t u → IsPart depth log u s after rest
@@ -38,18 +38,18 @@ BracketsAreRead = (depth : ℕ) (log after : Log) (t u v rest : List ℕ) (s : S
 
 -- ---- 2. `&` and `|`
 
--- a part alone is a query
+-- a part by itself is a query
 abbrev pub PartsAreRead : Type 0
 PartsAreRead = (depth : ℕ) (log after : Log) (t rest : List ℕ) (s : Shape)
     → IsPart depth log t s after rest → IsOver rest → IsWhole depth log t s after rest
 
--- two with `&` between them
+-- two parts with `&` between them are a query
 abbrev pub ConjunctionsAreRead : Type 0
 ConjunctionsAreRead = (depth : ℕ) (log one two : Log) (t u v rest : List ℕ) (a b : Shape)
     → IsPart depth log t a one u → Comes (codes "&") u v → IsPart depth one v b two rest
     → IsOver rest → IsWhole depth log t (both a b) two rest
 
--- two with `|` between them
+-- two parts with `|` between them are a query
 abbrev pub DisjunctionsAreRead : Type 0
 DisjunctionsAreRead = (depth : ℕ) (log one two : Log) (t u v rest : List ℕ) (a b : Shape)
     → IsPart depth log t a one u → Comes (codes "|") u v → IsPart depth one v b two rest
@@ -62,7 +62,7 @@ AndBindsBeforeOr = (depth : ℕ) (log one two three : Log) (t u v w x rest : Lis
     → Comes (codes "|") w x → IsPart depth two x c three rest → IsOver rest
     → IsWhole depth log t (either (both a b) c) three rest
 
--- `a | b & c` likewise
+-- `a | b & c`: `&` binds before `|`
 abbrev pub AndBindsBehindOr : Type 0
 AndBindsBehindOr = (depth : ℕ) (log one two three : Log) (t u v w x rest : List ℕ) (a b c : Shape)
     → IsPart depth log t a one u → Comes (codes "|") u v → IsPart depth one v b two w
@@ -71,7 +71,7 @@ AndBindsBehindOr = (depth : ℕ) (log one two three : Log) (t u v w x rest : Lis
 
 -- ---- 3. three parts
 
--- `a & b & c`
+-- `a & b & c` is read as `a & (b & c)`
 abbrev pub LongConjunctionsAreRead : Type 0
 LongConjunctionsAreRead = (depth : ℕ) (log one two three : Log) (t u v w x rest : List ℕ)
     (a b c : Shape)
@@ -79,7 +79,7 @@ LongConjunctionsAreRead = (depth : ℕ) (log one two three : Log) (t u v w x res
     → Comes (codes "&") w x → IsPart depth two x c three rest → IsOver rest
     → IsWhole depth log t (both a (both b c)) three rest
 
--- `a | b | c`
+-- `a | b | c` is read as `a | (b | c)`
 abbrev pub LongDisjunctionsAreRead : Type 0
 LongDisjunctionsAreRead = (depth : ℕ) (log one two three : Log) (t u v w x rest : List ℕ)
     (a b c : Shape)
@@ -96,7 +96,7 @@ NotBindsBeforeAnd = (depth : ℕ) (log one two : Log) (t u v w rest : List ℕ) 
     → IsPart (suc depth) one w b two rest → IsOver rest
     → IsWhole (suc depth) log t (both (negated a) b) two rest
 
--- `!a | b` likewise
+-- `!a | b`: `!` binds before `|`
 abbrev pub NotBindsBeforeOr : Type 0
 NotBindsBeforeOr = (depth : ℕ) (log one two : Log) (t u v w rest : List ℕ) (a b : Shape)
     → Comes (codes "!") t u → IsPart depth log u a one v → Comes (codes "|") v w

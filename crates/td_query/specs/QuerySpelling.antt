@@ -47,12 +47,12 @@ IsKey word = (word ≢ []) × IsTrue (list_all is_key_byte word)
 
 -- ---- 3. atoms
 
--- the words that always hold and never
+-- the words for what always holds and for what never does
 abbrev pub constant_text : Bool → List ℕ
 constant_text true = codes "true"
 constant_text false = codes "false"
 
--- `.field ~`, up to the `~`; the name is right behind the dot
+-- `.field ~`, up to the `~`; the name is right after the dot
 pub record SpellsField (name t rest : List ℕ) : Type 0 where
   pub behind : List ℕ
   pub dot : Stands (codes ".") t (name ++ behind)
@@ -61,7 +61,7 @@ pub record SpellsField (name t rest : List ℕ) : Type 0 where
   pub tilde : Stands (codes "~") behind rest
 
 -- With these patterns before it a text begins with an atom that has this meaning, with these
--- patterns after it, and then comes the rest. A pattern is kept with what stands between its
+-- patterns after it, and then comes the rest. A pattern is kept with what is between its
 -- slashes, and with how much of the text is left at the first of them
 pub data SpellsAtom (log : Log) (t : List ℕ) (s : Shape) (after : Log)
     (rest : List ℕ) : Type 0 where
@@ -84,12 +84,12 @@ pub data SpellsAtom (log : Log) (t : List ℕ) (s : Shape) (after : Log)
 
 -- ---- 4. chains
 
--- what a rule says: with these patterns before it a text begins so, which has this meaning, with
+-- what a rule says: with these patterns before it a text begins with what has this meaning, with
 -- these patterns after it, and then comes the rest
 abbrev pub Rule : Type 1
 Rule = Log → List ℕ → Shape → Log → List ℕ → Type 0
 
--- {mark part}: so many parts as these meanings, a mark before each
+-- {mark part}: a part for each of these meanings, a mark before each
 abbrev pub SpellsMore : List ℕ → Rule → List Shape → Log → List ℕ → Log → List ℕ → Type 0
 SpellsMore mark Part [] log t after rest = (after ≡ log) × (rest ≡ t)
 SpellsMore mark Part (s ∷ shapes) log t after rest = (u v : List ℕ) × (one : Log)
@@ -134,7 +134,7 @@ pub record SpellsBrackets (Part : Rule) (log : Log) (t : List ℕ) (s : Shape) (
   pub query : SpellsAny Part log behind s after end
   pub closes : Stands (codes ")") end rest
 
--- a part, with at most so many brackets and `!` open at any place: an atom, or `!` or brackets
+-- a part, with at most this many brackets and `!` open at any place: an atom, or `!` or brackets
 -- before what has one less
 unfoldable pub SpellsPart : ℕ → Log → List ℕ → Shape → Log → List ℕ → Type 0
 SpellsPart zero log t s after rest = SpellsAtom log t s after rest
@@ -142,6 +142,6 @@ SpellsPart (suc depth) log t s after rest = SpellsAtom log t s after rest
     ⊎ (SpellsNot (SpellsPart depth) log t s after rest
     ⊎ SpellsBrackets (SpellsPart depth) log t s after rest)
 
--- a query, with at most so many brackets and `!` open at any place
+-- a query, with at most this many brackets and `!` open at any place
 abbrev pub SpellsQuery : ℕ → Log → List ℕ → Shape → Log → List ℕ → Type 0
 SpellsQuery depth log t s after rest = SpellsAny (SpellsPart depth) log t s after rest

@@ -17,7 +17,7 @@ abbrev pub begins_slash : List ℕ → Bool
 begins_slash [] = false
 begins_slash (x ∷ t) = x == 47
 
--- what stands between a pattern's slashes, with `/` for each `\/`
+-- what is between a pattern's slashes, with `/` for each `\/`
 unfoldable pub unescaped : List ℕ → List ℕ
 unescaped [] = []
 unescaped (x ∷ t) = if (x == 92) && begins_slash t then unescaped t else x ∷ unescaped t
@@ -50,8 +50,8 @@ IsCause text CompiledTooBig = IsPattern default_config text
 IsCause text Internal = ⊥
 IsCause text OutOfMemory = ⊥
 
--- `regex` may refuse the text, and not for want of memory; of each legal pattern its contract
--- leaves open that it is too large
+-- `regex` may refuse the text for another cause than lack of memory; its contract leaves open if a
+-- legal pattern is too large
 abbrev pub IsRefusedForCause : List ℕ → Type 0
 IsRefusedForCause text = (e : Error) × IsCause text e
 
@@ -61,6 +61,6 @@ abbrev pub IsDefault : Regex → Type 0
 IsDefault r = (regex_config r ≡ default_config) × IsReadFromSource r
     × (regex_size r ≤ 10 * 2 ^ 20 + 24)
 
--- patterns that all are
+-- patterns that are all as `Regex::new` gives them
 abbrev pub AreDefault : List Regex → Type 0
 AreDefault patterns = AllByRecursion IsDefault patterns

@@ -19,22 +19,22 @@ GapsAreExact = (x : ℕ) (t rest : List ℕ) → IsFalse (is_space x) → x ≢ 
 abbrev pub LastGapsAreExact : Type 0
 LastGapsAreExact = (t : List ℕ) → (skipped t ≡ []) ↔ IsLastGap t
 
--- a part is read in front of a text if and only if the text spells it
+-- a part is read at the front of a text if and only if the text spells it
 abbrev pub PartsAreExact : Type 0
 PartsAreExact = (depth : ℕ) (log after : Log) (t rest : List ℕ) (s : Shape)
     → (not_in depth log t ≡ Ok (s, after, rest)) ↔ SpellsPart depth log t s after rest
 
--- neither mark comes
+-- neither `&` nor `|` comes next
 pub record NoMark (t : List ℕ) : Type 0 where
   pub no_and : (rest : List ℕ) → Stands (codes "&") t rest → ⊥
   pub no_or : (rest : List ℕ) → Stands (codes "|") t rest → ⊥
 
--- where neither mark comes after it, a query is read in front of a text if and only if the text
+-- if neither mark comes after it, a query is read at the front of a text if and only if the text
 -- spells it
 abbrev pub QueriesAreExact : Type 0
 QueriesAreExact = (depth : ℕ) (log after : Log) (t rest : List ℕ) (s : Shape) → NoMark rest
     → (or_at depth log t ≡ Ok (s, after, rest)) ↔ SpellsQuery depth log t s after rest
 
--- the keys of a text say so if and only if the text spells it
+-- the keys of a text say this if and only if the text spells it
 abbrev pub TrackersAreExact : Type 0
 TrackersAreExact = (text : List ℕ) (s : Said) → (said_in text ≡ Ok s) ↔ SpellsTracker text s

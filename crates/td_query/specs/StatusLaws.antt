@@ -28,13 +28,13 @@ abbrev pub SomeSatisfies : Contents → List Re → Shape → KeptSource → ℕ
 SomeSatisfies a patterns query s place = (fields : List Entry) × IsRowStanza a s place fields
     × Holds patterns fields query
 
--- so a row satisfies it
+-- a row satisfies a query if and only if some stanza of the row satisfies it
 abbrev pub RowsSatisfyByAStanza : Type 0
 RowsSatisfyByAStanza = (a : Contents) (patterns : List Re) (query : Shape) (s : KeptSource)
     (place : ℕ) →
     IsTrue (row_satisfies a patterns query s place) ↔ SomeSatisfies a patterns query s place
 
--- the status where a row is affected, good or bad
+-- the status of a row, by whether it is affected, good and bad
 pub record IsGraded (Affected IsGood IsBad : Type 0) (status : Option Status) : Type 0 where
   pub none : (status ≡ None) ↔ (¬ Affected)
   pub good : (status ≡ Some Good) ↔ (Affected × IsGood × (¬ IsBad))
@@ -42,7 +42,7 @@ pub record IsGraded (Affected IsGood IsBad : Type 0) (status : Option Status) : 
   pub partial : (status ≡ Some Partial) ↔ (Affected × IsGood × IsBad)
   pub unknown : (status ≡ Some Unknown) ↔ (Affected × (¬ IsGood) × (¬ IsBad))
 
--- a row's status is by what some stanza of it satisfies
+-- a row's status depends on what its stanzas satisfy
 abbrev pub RowsAreGradedByTheirStanzas : Type 0
 RowsAreGradedByTheirStanzas = (a : Contents) (t : Tracking) (source place : ℕ) (s : KeptSource) →
     slice_get a.sources source ≡ Some s → IsTrue (has_row a.table s.head.archs place) →
@@ -50,7 +50,7 @@ RowsAreGradedByTheirStanzas = (a : Contents) (t : Tracking) (source place : ℕ)
     (SomeSatisfies a t.patterns t.good s place) (SomeSatisfies a t.patterns t.bad s place)
     (status_at a t source place)
 
--- what is no row has none
+-- what is no row has no status
 abbrev pub RowsAloneHaveAStatus : Type 0
 RowsAloneHaveAStatus = (a : Contents) (t : Tracking) (source place : ℕ)
     → has_row_at a source place ≡ false → status_at a t source place ≡ None

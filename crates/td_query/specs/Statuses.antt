@@ -31,21 +31,21 @@ row_satisfies a patterns query s place =
     truth patterns (source_fields a s) query || list_any
     (λ b. is_of_on s.head.name place b && truth patterns (package_fields a b) query) a.binaries
 
--- an affected row is Partial where it is good and bad,
--- Good or Bad where it is one of them, else Unknown
+-- an affected row is Partial if it is good and bad,
+-- Good or Bad if it is one of them, else Unknown
 abbrev pub graded : Bool → Bool → Status
 graded true true = Partial
 graded true false = Good
 graded false true = Bad
 graded false false = Unknown
 
--- one that isn't affected has no status
+-- a row that isn't affected has no status
 abbrev pub status_where : Bool → Bool → Bool → Option Status
 status_where false good bad = None
 status_where true good bad = Some (graded good bad)
 
 -- the status of a source's row on the architecture at a place;
--- none where the source has no row there
+-- none if the source has no row there
 abbrev pub row_status : Contents → Tracking → KeptSource → ℕ → Option Status
 row_status a t s place =
     if has_row a.table s.head.archs place
@@ -53,22 +53,22 @@ row_status a t s place =
     (row_satisfies a t.patterns t.good s place) (row_satisfies a t.patterns t.bad s place)
     else None
 
--- the same of the source with a number
+-- the status of the row of a source on an architecture, both by number
 abbrev pub status_at : Contents → Tracking → ℕ → ℕ → Option Status
 status_at a t source place = option_map_or (λ s. row_status a t s place)
     (slice_get a.sources source) None
 
--- the same of a key: of the source with its name, on the architecture with its name
+-- the status of the row of a key: of its source on its architecture, both by name
 abbrev pub status_of : Contents → Tracking → Key → Option Status
 status_of a t k = option_map_or (λ source. option_map_or (status_at a t source)
     (place_of a.table k.arch) None) (number_named a k.source) None
 
--- a source is affected where some row of it is
+-- a source is affected if and only if some row of it is
 abbrev pub is_affected : Contents → Tracking → KeptSource → Bool
 is_affected a t s = list_any (λ place. is_some (row_status a t s place))
     (range_with_len 0 (length a.table))
 
--- the same of the source with a number
+-- whether the source with a number is affected
 abbrev pub is_affected_at : Contents → Tracking → ℕ → Bool
 is_affected_at a t source = option_map_or (is_affected a t) (slice_get a.sources source) false
 

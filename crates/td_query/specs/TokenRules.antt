@@ -23,18 +23,17 @@ LastCommentsAreSkipped =
 abbrev pub OthersAreKept : Type 0
 OthersAreKept = (x : ℕ) (t : List ℕ) → IsFalse (is_space x) → x ≢ 35 → skipped (x ∷ t) ≡ x ∷ t
 
--- a backslash stands last
+-- a text ends in a backslash
 abbrev pub EndsInBackslash : List ℕ → Type 0
 EndsInBackslash t = (front : List ℕ) × (t ≡ front ++ 92 ∷ [])
 
--- what may stand between two slashes: right before each slash in it stands a backslash, and none
--- stands at its end
+-- what may be between slashes: a backslash is right before each slash in it, and none comes last
 abbrev pub IsBetweenSlashes : List ℕ → Type 0
 IsBetweenSlashes raw =
     ((front back : List ℕ) → raw ≡ front ++ 47 ∷ back → EndsInBackslash front)
     × (¬ EndsInBackslash raw)
 
--- a pattern ends at a slash if and only if what stands before it may stand between two slashes
+-- a pattern ends at a slash if and only if what is before it may be between two slashes
 abbrev pub PatternsEndAtTheirSlash : Type 0
 PatternsEndAtTheirSlash = (t raw rest : List ℕ) →
     (pattern_in t ≡ Some (raw, rest)) ↔ ((t ≡ raw ++ 47 ∷ rest) × IsBetweenSlashes raw)

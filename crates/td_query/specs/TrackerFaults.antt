@@ -16,15 +16,15 @@ key_name IsAffected = codes "is_affected"
 key_name IsGood = codes "is_good"
 key_name IsBad = codes "is_bad"
 
--- a fault's name alone, without its place or key
+-- a fault's name, without its place or key
 abbrev pub fault_name : TrackerFault → List ℕ
 fault_name (Syntax place) = codes "Syntax"
 fault_name (MissingKey key) = codes "MissingKey"
 fault_name (BadPattern place) = codes "BadPattern"
 fault_name NoMemory = codes "NoMemory"
 
--- of these patterns the one whose opening `/` stands at the place is refused, in a text of so many
--- bytes, and those before it are read; one that is legal may be told so too, as too large
+-- the pattern whose opening `/` is at the place is refused, in a text of this many bytes; those
+-- before it are read. A legal pattern may be refused too, as too large
 pub record IsFirstRefused (size : ℕ) (log : Log) (place : ℕ) : Type 0 where
   pub before : Log
   pub at : Raw
@@ -45,8 +45,8 @@ abbrev pub log_in : Result Said (ℕ × Log) → Log
 log_in (Ok s) = s.log
 log_in (Err e) = e.1
 
--- the fault of a text: its first wrong byte, where the patterns before it are read; or the first
--- pattern that is refused; or else what is missing. Want of memory may stand in place of any answer
+-- the fault of a text: its first wrong byte, if the patterns before it are read; or the first
+-- pattern that is refused; or else what is missing. Memory may run out whatever the text is
 abbrev pub FaultOf : List ℕ → TrackerFault → Type 0
 FaultOf text (Syntax place) = (left : ℕ) × (log : Log) × (said_in text ≡ Err (left, log))
     × ArePatterns log × (place ≡ length text - left)
@@ -55,7 +55,7 @@ FaultOf text (MissingKey key) = (s : Said) × (said_in text ≡ Ok s) × ArePatt
     × IsMissing s key
 FaultOf text NoMemory = Unit {0}
 
--- the fault of patterns alone
+-- a fault of patterns only: the first pattern that is refused, unless memory runs out
 abbrev pub IsPatternFault : ℕ → Log → TrackerFault → Type 0
 IsPatternFault size log (Syntax place) = ⊥
 IsPatternFault size log (BadPattern place) = IsFirstRefused size log place

@@ -49,7 +49,7 @@ abbrev pub title_value : Said → ℕ → Option (List ℕ) → SaidRead
 title_value s left None = Err (left, s.log)
 title_value s left (Some t) = titled s (cut 34 t)
 
--- a query under a key, in place of an earlier one
+-- a query under `is_affected`, in place of an earlier one
 abbrev pub with_affected : Said → Shape × Log × List ℕ → SaidRead
 with_affected s x = Ok (
   record {
@@ -62,7 +62,7 @@ with_affected s x = Ok (
   x.2,
 )
 
--- the same under `is_good`
+-- a query under `is_good`, in place of an earlier one
 abbrev pub with_good : Said → Shape × Log × List ℕ → SaidRead
 with_good s x = Ok (
   record {
@@ -75,7 +75,7 @@ with_good s x = Ok (
   x.2,
 )
 
--- the same under `is_bad`
+-- a query under `is_bad`, in place of an earlier one
 abbrev pub with_bad : Said → Shape × Log × List ℕ → SaidRead
 with_bad s x = Ok (
   record {
@@ -98,12 +98,12 @@ abbrev pub ignored_query : Said → Read → SaidRead
 ignored_query s (Ok x) = Ok (s, x.2)
 ignored_query s (Err e) = Err (e.0, s.log)
 
--- the value of another key: a text where a `"` opens it, else a query
+-- the value of another key: a text if a `"` opens it, else a query
 unfoldable pub other_value : Said → List ℕ → Option (List ℕ) → SaidRead
 other_value s t None = ignored_query s (or_at 100 [] t)
 other_value s t (Some u) = ignored_text s (cut 34 u)
 
--- the value of a key, behind its `=`
+-- the value of a key, after its `=`
 unfoldable pub value_at : List ℕ → Said → List ℕ → SaidRead
 value_at key s t =
     if bytes_eq key (codes "title")
@@ -115,16 +115,16 @@ value_at key s t =
 
 -- ---- 2. key = value;
 
--- what is said, where a `;` ends the value; else the text is wrong at the byte in its place
+-- what is said, if a `;` ends the value; else the text is wrong at the byte that comes instead
 abbrev pub ended_by : Said → ℕ → Option (List ℕ) → SaidRead
 ended_by s left None = Err (left, s.log)
 ended_by s left (Some t) = Ok (s, t)
 
--- the `;` behind a value
+-- the `;` after a value
 unfoldable pub ended : Said × List ℕ → SaidRead
 ended x = ended_by x.0 (length (skipped x.1)) (strip (codes ";") (skipped x.1))
 
--- a value behind the key's `=`, if there is one
+-- a value after the key's `=`, if there is one
 abbrev pub equalled : List ℕ → Said → ℕ → Option (List ℕ) → SaidRead
 equalled key s left None = Err (left, s.log)
 equalled key s left (Some t) = on_ok (value_at key s t) ended
@@ -138,7 +138,7 @@ entry_at s at =
 
 -- ---- 3. the list of keys
 
--- what stands behind whitespace and comments, if anything does
+-- what comes after whitespace and comments, if anything does
 unfoldable pub front : List ℕ → Option (List ℕ)
 front t = if length (skipped t) == 0 then None else Some (skipped t)
 
@@ -148,7 +148,7 @@ abbrev pub entries_next : (Said → List ℕ → Result Said (ℕ × Log)) → S
 entries_next more s None = Ok s
 entries_next more s (Some at) = on_ok (entry_at s at) (λ x. more x.0 x.1)
 
--- keys up to the end, at most so many
+-- keys up to the end, at most this many
 unfoldable pub entries : ℕ → Said → List ℕ → Result Said (ℕ × Log)
 entries zero s t = Ok s
 entries (suc n) s t = entries_next (entries n) s (front t)

@@ -23,8 +23,8 @@ TrackersAreThere = (text : List ℕ) (s : Said) (affected good bad : Shape) → 
     → s.affected ≡ Some affected → s.good ≡ Some good → s.bad ≡ Some bad → ArePatterns s.log
     → (t : Tracking) × IsTracker text t
 
--- two trackers are the same but for how their patterns are put together: the patterns of one number
--- have one text, and the same matches and groups in each text of bytes
+-- two trackers are the same except for how their patterns are put together: the patterns of one
+-- number have one text, and the same matches and groups in each text of bytes
 pub record IsSameTracker (t u : Tracking) : Type 0 where
   pub title : u.title ≡ t.title
   pub affected : u.affected ≡ t.affected
@@ -33,7 +33,7 @@ pub record IsSameTracker (t u : Tracking) : Type 0 where
   pub sources : u.sources ≡ t.sources
   pub patterns : AllZip SameCaptures t.patterns u.patterns
 
--- two trackers of one text are the same so far
+-- two trackers of one text are the same, as `IsSameTracker` says
 abbrev pub TrackersAreOne : Type 0
 TrackersAreOne = (text : List ℕ) (t u : Tracking) → IsTracker text t → IsTracker text u
     → IsSameTracker t u

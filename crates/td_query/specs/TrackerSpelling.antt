@@ -57,12 +57,12 @@ pub record SpellsEntry (s : Said) (t : List ℕ) (after : Said) (rest : List ℕ
 
 -- With this said before it a text is of keys with their values, with this said after it
 pub data SpellsKeys (after : Said) : Said → List ℕ → Type 0 where
-  -- none is left
+  -- no key is left
   no_key : (s : Said) (t : List ℕ) → IsLastGap t → after ≡ s → SpellsKeys after s t
   -- a key, and then others
   one_key : (s one : Said) (t rest : List ℕ) → SpellsEntry s t one rest → SpellsKeys after one rest
       → SpellsKeys after s t
 
--- a text's keys say so
+-- a text's keys say this
 abbrev pub SpellsTracker : List ℕ → Said → Type 0
 SpellsTracker text s = SpellsKeys s nothing_said text

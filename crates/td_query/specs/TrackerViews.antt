@@ -19,18 +19,18 @@ said k = record {
   log = map raw_of k.log.items;
 }
 
--- what is said and what follows are what reading gives; so is a fault, unless it is want of memory
+-- what is said and what follows are what reading gives; so is a fault, unless memory runs out
 abbrev pub GivesSaid : Result (Bor (List ℕ)) ReadFault → Keys → SaidRead → Type 0
 GivesSaid (Ok rest) k read = read ≡ Ok (said k, rest.now)
 GivesSaid (Err NoMemory) k read = Unit {0}
 GivesSaid (Err (Syntax left)) k read = read ≡ Err (left, (said k).log)
 
--- a fault is the reading's, unless it is want of memory
+-- a fault is the reading's, unless memory runs out
 abbrev pub GivesFault : ReadFault → Keys → Result Said (ℕ × Log) → Type 0
 GivesFault NoMemory k read = Unit {0}
 GivesFault (Syntax left) k read = read ≡ Err (left, (said k).log)
 
--- the same at the end of the text
+-- what is said by a whole text is what reading gives; so is a fault, unless memory runs out
 abbrev pub GivesAll : {A : Type 0} → Result A ReadFault → Keys → Result Said (ℕ × Log) → Type 0
 GivesAll (Ok x) k read = read ≡ Ok (said k)
 GivesAll (Err fault) k read = GivesFault fault k read

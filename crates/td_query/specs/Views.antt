@@ -8,16 +8,16 @@ use Rattle.td_query.specs.declared.read_fault.ReadFault.TheVariants.{Syntax, NoM
 use Rattle.td_query.specs.Query.{shape_of}
 use Rattle.td_query.specs.QueryGrammar.{Raw, Read}
 
--- two texts
+-- two texts, without where they lie in memory
 abbrev pub pair : Bor (List ℕ) × Bor (List ℕ) → List ℕ × List ℕ
 pair p = (p.0.now, p.1.now)
 
--- a pattern as it stands in a text
+-- a pattern as it is in a text
 abbrev pub raw_of : RawPattern → Raw
 raw_of p = record { left = p.left; raw = p.raw.now }
 
 -- a query and what follows it, with the patterns so far, are what reading gives; so is a fault,
--- unless it is want of memory
+-- unless memory runs out
 abbrev pub Gives : Result (Query × Bor (List ℕ)) ReadFault → List RawPattern → Read → Type 0
 Gives (Ok x) log read = read ≡ Ok (shape_of x.0, map raw_of log, x.1.now)
 Gives (Err NoMemory) log read = Unit {0}

@@ -17,23 +17,22 @@ is_pattern (negated s) = false
 is_pattern (both s t) = false
 is_pattern (either s t) = false
 
--- a pattern can be read; of the atoms it alone takes memory, since its text is kept
+-- a pattern can be read; no other atom takes memory, and a pattern does since its text is kept
 abbrev pub reads_pattern : Read → Bool
 reads_pattern (Ok x) = is_pattern x.0
 reads_pattern (Err e) = false
 
--- an atom can be read in front of a text
+-- an atom can be read at the front of a text
 abbrev pub IsAtom : List ℕ → Type 0
 IsAtom t = (log : Log) × IsOk (atom log (skipped t))
 
--- an atom can be read in front, or after the `!` and `(` in front, of which there are so many at
--- most
+-- an atom can be read at the front of a text, or after at most this many `!` and `(` there
 unfoldable pub IsBegun : ℕ → List ℕ → Type 0
 IsBegun zero t = IsAtom t
 IsBegun (suc depth) t =
     IsAtom t ⊎ ((u : List ℕ) × (Comes (codes "!") t u ⊎ Comes (codes "(") t u) × IsBegun depth u)
 
--- a key stands in front, and after its `=` the beginning of a query
+-- a key comes first, and after its `=` the beginning of a query
 abbrev pub IsEntryBegun : List ℕ → Type 0
 IsEntryBegun at =
     (0 < length (run is_key_byte at))

@@ -1,4 +1,4 @@
--- What contracts cite for the code's sake alone.
+-- What contracts cite only for the code's sake.
 pub mod Settling
 pub mod Alike
 pub mod MarkParts

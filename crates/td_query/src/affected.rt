@@ -12,8 +12,8 @@ impl Marks {
     ghost use Rattle.td_query.specs.Statuses.{affected_names, is_affected, is_affected_at};
     ghost use Rattle.td_query.specs.Tracking.{Tracking};
 
-    /// Of each source whether some row of it is affected, by their numbers. Of many sources several
-    /// threads find it.
+    /// Whether some row of a source is affected, for each source in the archive's order. Several
+    /// threads look at many sources.
     pub fn affected_flags(
         &self,
         rt: &(impl Threads + Sync),

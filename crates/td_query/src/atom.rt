@@ -33,7 +33,7 @@ fn read_word(at: &str) -> Result<(Query<'_>, &str), ReadFault>
     }
 }
 
-// What stands behind a `/`, with so much of the text left at it.
+// What comes after a `/`, with `left` bytes of the text left at it.
 #[tactic(auto, unfolding(crate::specs::QueryGrammar::slash_atom))]
 fn read_slash<'a>(
     field: &'a str,
@@ -56,7 +56,7 @@ fn read_slash<'a>(
     }
 }
 
-// What stands behind the name of a field: a `~`, and a text or a pattern.
+// What comes after the name of a field: a `~`, and a text or a pattern.
 #[tactic(auto, unfolding(crate::specs::QueryGrammar::tilde_atom, crate::specs::QueryGrammar::tested))]
 fn read_tilde<'a>(
     field: &'a str,
@@ -86,7 +86,7 @@ fn read_tilde<'a>(
     }
 }
 
-// What stands behind a dot.
+// What comes after a dot.
 #[tactic(auto, unfolding(crate::specs::QueryGrammar::field_atom))]
 fn read_field<'a>(
     text: &'a str,

@@ -22,7 +22,7 @@ enum PatternFault {
     NoMemory,
 }
 
-// What an error of `regex` is told as: want of memory alone as want of memory.
+// The fault for an error of `regex`: `NoMemory` if and only if memory ran out.
 fn fault_of(error: Error) -> PatternFault
     ensures memory { (result ≡ PatternFault.NoMemory) ↔ (error ≡ OutOfMemory) }
 {
@@ -45,7 +45,7 @@ fn pattern_of(alloc: Global, text: &str) -> Result<Regex, PatternFault>
     }
 }
 
-// The pattern that stands between two slashes.
+// The pattern between two slashes.
 fn compiled(alloc: Global, raw: &str) -> Result<Regex, PatternFault>
     ensures source { IfOk result (λ r. regex_source r ≡ unescaped raw.now) }
     ensures read { IfOk result (λ r. IsPattern default_config (unescaped raw.now)) }
@@ -58,7 +58,7 @@ fn compiled(alloc: Global, raw: &str) -> Result<Regex, PatternFault>
     }
 }
 
-/// The patterns of a text of so many bytes.
+/// The patterns of a text of `size` bytes.
 pub fn compile(alloc: Global, size: usize, log: &[RawPattern]) -> Result<Vec<Regex>, TrackerFault>
     ensures sources { IfOk result
         (λ ps. map regex_source ps.items ≡ map source_of (map raw_of log.now)) }

@@ -67,8 +67,8 @@ pub fn patterns_end_at_their_slash()
     ensures { PatternsEndAtTheirSlash }
 {}
 
-/// Each key says what is read under its own name, in place of what it said before, where an `=`
-/// stands before the value and a `;` behind it.
+/// Each key says what is read under its own name, in place of what it said before, if an `=` comes
+/// before the value and a `;` after it.
 pub fn keys_say_what_is_read()
     ensures queries { QueriesAreSaid }
     ensures titles { TitlesAreSaid }
@@ -76,7 +76,7 @@ pub fn keys_say_what_is_read()
 {}
 
 /// A text is read exactly as it is spelled: what the rules of spelling say of its keys, and nothing
-/// else. So is a part of a query, and a query with no mark behind it.
+/// else. So is a part of a query, and a query with no mark after it.
 pub fn trackers_are_read_as_spelled()
     ensures gaps { GapsAreExact }
     ensures last_gaps { LastGapsAreExact }
@@ -95,16 +95,16 @@ pub fn trackers_mean_one_thing()
     ensures status { RowsHaveOneStatus }
 {}
 
-/// A text is found exactly where it stands in a field's value with bounds on both sides, a pattern
-/// exactly where `regex` finds it there, and nothing in a field that isn't there.
+/// A text is found if and only if it is in a field's value with bounds on both sides, a pattern if
+/// and only if `regex` finds it there. Nothing is found in a field that isn't there.
 pub fn fields_match_by_their_values()
     ensures absent { AbsentFieldsNeverMatch }
     ensures texts { TextsMatchWhereTheyStand }
     ensures patterns { PatternsMatchWhereTheyAreFound }
 {}
 
-/// A row's status is by what some stanza of it satisfies: one of its source's packages there or of
-/// `all`, or the source's own.
+/// A row's status depends on what its stanzas satisfy: those of its source's packages there or of
+/// `all`, and the source's own.
 pub fn rows_are_graded_by_their_stanzas()
     ensures stanzas { RowsSatisfyByAStanza }
     ensures graded { RowsAreGradedByTheirStanzas }
@@ -118,7 +118,7 @@ pub fn wrong_bytes_are_final()
     ensures always { WrongBytesAreFinal }
 {}
 
-/// What stands before a wrong byte can go on: it begins a text that is read and says all three
+/// What is before a wrong byte can go on: it begins a text that is read and says all three
 /// queries. That text is a tracker's, too, unless the wrong one ends inside a pattern.
 pub fn right_bytes_go_on()
     ensures text { RightBytesAreText }

@@ -1,17 +1,17 @@
 //! Trackers: which packages a transition affects, and which of them are good or bad. The language
 //! is this project's own, in the style of ben.
 //!
-//! Start at `Tracker::read`. `specs/TrackerGrammar.antt` says what a text's keys say,
-//! `specs/QueryGrammar.antt` what their queries are, both with the first byte that is wrong,
-//! `specs/Tracking.antt` which text is a tracker's, and `specs/TrackerFaults.antt` what the fault
-//! of another is.
-//! Promised: a text is read exactly where it is a tracker's, as that tracker, unless memory runs
-//! out or a pattern is told as too large; else the first fault from the left is named, with its
-//! place, or what is missing. Which legal pattern is too large no clause says.
+//! Start at `Tracker::read`. `specs/TrackerGrammar.antt` says what a text's keys say, and
+//! `specs/QueryGrammar.antt` what their queries are; both say which byte is the first wrong one.
+//! `specs/Tracking.antt` says which text is a tracker's, and `specs/TrackerFaults.antt` what the
+//! fault of any other text is.
+//! Promised: a text is read if and only if it is a tracker's, as that tracker, unless memory runs
+//! out or a pattern is refused as too large; else the first fault from the left is named, with its
+//! place, or what is missing. No clause says which legal pattern is too large.
 //! A row's status is what `specs/Statuses.antt` says: `Tracker::status` evaluates the queries on
 //! the row's stanzas, `Marks` does so once for each stanza that an archive keeps and is asked row
 //! by row.
-//! What queries and statuses mean is said by `specs/QueryLaws.antt` and `specs/StatusLaws.antt`.
+//! `specs/QueryLaws.antt` and `specs/StatusLaws.antt` say what queries and statuses mean.
 //! The place of a wrong byte is the first that no continuation allows: `specs/FaultPlaces.antt`.
 #![tactic(auto)]
 

@@ -23,7 +23,7 @@ pub struct Mark {
 }
 
 impl Mark {
-    /// None of them.
+    /// The mark by which no query holds.
     pub fn none() -> Mark
         ensures none { result ≡ no_mark }
     {
@@ -34,14 +34,14 @@ impl Mark {
         }
     }
 
-    /// Whether it is none of them.
+    /// Whether none of the queries holds.
     pub fn is_none(self) -> bool
         ensures none { (result ≡ true) ↔ (self ≡ no_mark) }
     {
         !self.affected && !self.good && !self.bad
     }
 
-    /// Those that hold here or there.
+    /// The queries that hold by this mark or the other.
     pub fn or(self, other: Mark) -> Mark
         ensures either { result ≡ either_mark self other }
     {
@@ -52,7 +52,7 @@ impl Mark {
         }
     }
 
-    /// The status of a row of which they hold.
+    /// The status of a row on which these queries hold.
     pub fn status(self) -> Option<Status>
         ensures value { result ≡ status_where self.affected self.good self.bad }
         ensures unaffected { (result ≡ None) ↔ (self.affected ≡ false) }
@@ -81,7 +81,7 @@ impl Mark {
 pub fn mark_of(tracker: &Tracker<'_>, stanza: &Stanza, matchers: &mut Vec<Matcher>) -> Mark
     ensures mark { result ≡ mark_by (map matcher_pattern matchers.old.items)
         (tracking tracker.now) (fields_of stanza.now) }
-    // So they are with any patterns that find alike.
+    // The mark is the same with any patterns that find alike.
     ensures alike { (ps : List Re) → AreAlike ps (map matcher_pattern matchers.old.items)
         → result ≡ mark_by ps (tracking tracker.now) (fields_of stanza.now) }
     ensures same { map matcher_pattern matchers.new.items ≡ map matcher_pattern matchers.old.items }

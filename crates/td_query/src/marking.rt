@@ -37,8 +37,8 @@ fn kept_stanza<'x, 'a>(
     }
 }
 
-// The marks of the stanzas of a file, of those that binary packages, or sources, were kept of,
-// from one with a number up to another.
+// The marks of a file's stanzas that binary packages, or sources, were kept of, from one with a
+// number up to another.
 fn mark_range(
     alloc: Global,
     archive: &Archive<'_, '_>,
@@ -53,7 +53,7 @@ fn mark_range(
     ensures marks { IfOk result (λ marks.
         MarkBetween (mark_by (map matcher_pattern matchers.old.items) (tracking tracker.now))
         (kept_fields archive.now file) from to marks.items) }
-    // So they are with any patterns that find alike.
+    // The marks are the same with any patterns that find alike.
     ensures alike { (ps : List Re) → AreAlike ps (map matcher_pattern matchers.old.items)
         → IfOk result (λ marks. MarkBetween (mark_by ps (tracking tracker.now))
         (kept_fields archive.now file) from to marks.items) }
@@ -67,9 +67,9 @@ fn mark_range(
     Ok(marks)
 }
 
-// The marks of a file's stanzas from one with a number up to another, by the tracker of a text. It
-// is read anew: a thread may borrow the text, and not what `regex` made of it. What `regex` makes
-// of the text again finds alike.
+// The marks of a file's stanzas from one with a number up to another, by the tracker of a text. The
+// text is read anew: a thread may borrow it, but not what `regex` made of it. What `regex` makes of
+// it again finds alike.
 fn between_by_text(
     alloc: Global,
     archive: &Archive<'_, '_>,
@@ -89,8 +89,8 @@ fn between_by_text(
     mark_range(alloc, archive, file, &tracker, &mut matchers, from, to)
 }
 
-// The marks of packages from one with a number up to another by the tracker of a text, where two
-// threads make those before a number in the middle and those from it on.
+// The marks of packages from one with a number up to another by the tracker of a text. One thread
+// makes those before a number in the middle, and another thread the rest.
 fn pair_by_text<R: Threads + Sync>(
     rt: &R,
     alloc: Global,
@@ -142,8 +142,8 @@ fn rest_by_tracker(
     Ok((packages, sources))
 }
 
-// The marks of the packages from one with a number on, and of all sources: those from another
-// number on a thread makes by the text.
+// The marks of the packages from one with a number on, and of all sources: a thread makes those
+// from another number on by the text.
 fn rest_and_sources<R: Threads + Sync>(
     rt: &R,
     alloc: Global,

@@ -10,7 +10,7 @@ use std::alloc::{AllocError, Global};
 use std::thread::Threads;
 use td_indices::{Archive, is_on};
 
-// The mark with a number, and none past the last.
+// The mark with a number; past the last one, the mark by which no query holds.
 fn mark_at(marks: &[Mark], number: usize) -> Mark
     ensures { result ≡ get_or marks.now number no_mark }
 {
@@ -21,7 +21,7 @@ fn mark_at(marks: &[Mark], number: usize) -> Mark
 }
 
 /// What a tracker says of each stanza that an archive keeps, so that the status of a row takes no
-/// memory and looks at the packages of its own source alone.
+/// memory and looks only at the packages of its own source.
 #[derive(Drop)]
 pub struct Marks {
     packages: Vec<Mark>,
@@ -29,14 +29,18 @@ pub struct Marks {
 }
 
 impl Marks {
-    ghost use Rattle.std.specs.Prelude.{◌≡◌, IfOk, false};
+    ghost use Rattle.std.specs.Prelude.{◌≡◌, IfOk, false, slice_get};
+    ghost use Rattle.std.specs.Option.{option_map_or};
+    ghost use Rattle.td_indices.specs.Archive.{Contents};
+    ghost use Rattle.td_indices.specs.Stanzas.{package_fields};
     ghost use Rattle.td_query.specs.Marks.{AreMarks, mark_there as mark_there_of};
     ghost use Rattle.td_query.specs.Marks.{row_mark as row_mark_of};
     ghost use Rattle.td_query.specs.Statuses.{is_affected_at, status_at};
     ghost use Rattle.td_query.specs.Tracking.{IsTracker, Tracking, tracking};
+    ghost use Rattle.td_query.specs.Truth.{truth};
 
-    /// The marks of an archive by the tracker of a text: each query is evaluated once on each stanza
-    /// that was kept. Four threads make them, of which three read the tracker anew from the text.
+    /// The marks of an archive by the tracker of a text: each query is evaluated once on each kept
+    /// stanza. Four threads make them, and three read the tracker anew from the text.
     pub fn make(
         rt: &(impl Threads + Sync),
         alloc: Global,
@@ -103,8 +107,8 @@ impl Marks {
         mark
     }
 
-    /// The status of the row of the source with a number on the architecture at a place, where
-    /// there is such a row and it is affected. The archive is the one that the marks are of.
+    /// The status of the row of the source with a number on the architecture at a place, if there
+    /// is such a row and it is affected. The archive is the one that the marks are of.
     pub fn status(&self, archive: &Archive<'_, '_>, source: usize, place: usize) -> Option<Status>
         ensures status { (t : Tracking) → AreMarks archive.now t self.now
             → result ≡ status_at archive.now t source place }
@@ -113,6 +117,15 @@ impl Marks {
             return None;
         }
         self.row_mark(archive, source, place).status()
+    }
+
+    /// Whether the query `is_bad` holds on the stanza of the binary package with a number.
+    pub fn is_bad(&self, binary: usize) -> bool
+        ensures bad { (a : Contents) (t : Tracking) → AreMarks a t self.now → result
+            ≡ option_map_or (λ b. truth t.patterns (package_fields a b) t.bad)
+            (slice_get a.binaries binary) false }
+    {
+        mark_at(self.packages.as_slice(), binary).bad
     }
 
     /// Whether some row of the source with a number is affected.

@@ -19,7 +19,7 @@ use td_text::strip;
 /// How many brackets and `!` may be open at a place.
 pub const MAX_NESTING: u8 = 100;
 
-// What follows a mark, where it stands in front.
+// What follows a mark, if the mark comes first.
 #[tactic(auto, unfolding(crate::specs::QueryGrammar::behind_mark))]
 fn behind<'a>(text: &'a str, mark: &str) -> Option<&'a str>
     requires one { length mark.now ≡ 1 }
@@ -29,7 +29,7 @@ fn behind<'a>(text: &'a str, mark: &str) -> Option<&'a str>
     strip(skip(text), mark)
 }
 
-// Takes the closing bracket behind a query.
+// Takes the closing bracket after a query.
 #[tactic(auto, unfolding(crate::specs::QueryGrammar::closed))]
 fn close<'a>(inner: Query<'a>, text: &'a str) -> Result<(Query<'a>, &'a str), ReadFault>
     ensures gives { (log : List RawPattern)
@@ -124,7 +124,7 @@ fn read_parts<'a>(
     Ok((joint.join(parts), rest))
 }
 
-/// The query at the front of a text, and what follows it. Its patterns are put behind those of
+/// The query at the front of a text, and what follows it. Its patterns are put after those of
 /// the log.
 #[tactic(auto, unfolding(crate::specs::QueryGrammar::or_with))]
 pub fn read_query<'a>(

@@ -4,22 +4,22 @@
 #[derive(Drop)]
 pub enum Query<'a> {
     Always(bool),
-    /// The text stands in the value of the field, bounded.
+    /// The text is in the value of the field, bounded.
     Text(&'a str, &'a str),
     /// The pattern with this number is found in the value of the field.
     Pattern(&'a str, usize),
     Not(Box<Query<'a>>),
-    /// Each of them, so that a long chain is no deep tree.
+    /// Each of these parts has to hold: one list, so that a long chain is no deep tree.
     All(Vec<Query<'a>>),
     Any(Vec<Query<'a>>),
 }
 
-/// What stands between the parts of a query.
+/// The mark between the parts of a query.
 #[derive(Clone, Copy)]
 pub enum Joint {
     /// `&`: each part has to hold.
     And,
-    /// `|`: one of them has to hold.
+    /// `|`: one part has to hold.
     Or,
 }
 
@@ -29,7 +29,7 @@ impl Joint {
     ghost use Rattle.td_query.specs.QueryGrammar.{mark_of};
     ghost use Rattle.td_query.specs.inner.Settling.{settling};
 
-    /// How it is written.
+    /// How the mark is written.
     pub fn mark(self) -> &'static str
         ensures mark { result.now ≡ mark_of self }
         ensures one { length result.now ≡ 1 }
@@ -40,7 +40,7 @@ impl Joint {
         }
     }
 
-    /// The answer of a part that settles what all of them come to.
+    /// The answer of a part that settles what all parts come to.
     pub fn settles(self) -> bool
         ensures answer { result ≡ settling self }
     {
@@ -60,7 +60,7 @@ impl Joint {
         }
     }
 
-    /// What it makes of the parts; one part stands for itself.
+    /// What the mark makes of the parts; a part by itself stays as it is.
     pub fn join(self, mut parts: Vec<Query<'_>>) -> Query<'_>
         ensures shape { shape_of result ≡ joined self (map shape_of parts.entry.items) }
     {

@@ -4,7 +4,7 @@ use std::alloc::{AllocError, AllocFailed};
 /// Why a reading stopped.
 #[derive(Clone, Copy, Debug, PartialEq, Eq)]
 pub enum ReadFault {
-    /// With so many bytes left.
+    /// The text is wrong where this many bytes are left.
     Syntax(usize),
     NoMemory,
 }
@@ -31,8 +31,8 @@ impl<T: Drop> From<AllocFailed<T>> for ReadFault {
     }
 }
 
-/// A pattern as it stands in a text: how much of the text is left at its opening `/`, and what
-/// stands between its slashes.
+/// A pattern as it is in a text: how much of the text is left at its opening `/`, and what is
+/// between its slashes.
 #[derive(Clone, Copy)]
 pub struct RawPattern<'a> {
     pub left: usize,

@@ -29,7 +29,7 @@ fn mark_there(
     }
 }
 
-/// What holds on some stanza of the row of a source on the architecture at a place; nothing where
+/// What holds on some stanza of the row of a source on the architecture at a place; nothing if
 /// there is no such source.
 pub fn row_mark(
     tracker: &Tracker<'_>,

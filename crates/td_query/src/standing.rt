@@ -1,4 +1,4 @@
-//! Whether a text stands in a value as a word of its own.
+//! Whether a text is in a value as a word of its own.
 ghost use Rattle.std.specs.Prelude.{◌≡◌, ◌≤◌, length};
 ghost use Rattle.td_text.specs.Words.{is_name_byte as is_name_byte_of};
 ghost use Rattle.td_query.specs.Standing.{is_free_before as is_free_before_of};
@@ -35,7 +35,7 @@ fn stands_at(text: &[u8], value: &[u8], i: usize) -> bool
     &value[i..end] == text && is_free_before(value, i) && is_free_from(value, end)
 }
 
-/// Whether the text, not empty, stands in the value, bounded by its ends or by what no package's
+/// Whether the text, not empty, is in the value, bounded by its ends or by what no package's
 /// name has.
 fn stands_in(text: &[u8], value: &[u8]) -> bool
     ensures stands { result ≡ stands_in_of text.now value.now }
@@ -51,8 +51,8 @@ fn stands_in(text: &[u8], value: &[u8]) -> bool
     false
 }
 
-/// The same. Most values don't have the text at all, and a search tells that sooner than a look at
-/// each place does.
+/// Whether the text is in the value, bounded. Most values don't have it at all, and a search finds
+/// that out sooner than a look at each place.
 pub fn stands_bounded(text: &str, value: &str) -> bool
     ensures stands { result ≡ stands_in_of text.now value.now }
 {

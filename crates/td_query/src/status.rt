@@ -5,13 +5,13 @@ ghost use Rattle.td_query.specs.Statuses.{status_name};
 /// How far the rebuild of an affected row has come.
 #[derive(Clone, Copy, PartialEq, Eq)]
 pub enum Status {
-    /// It is good, and not bad.
+    /// The row is good, and not bad.
     Good,
-    /// It is bad, and not good.
+    /// The row is bad, and not good.
     Bad,
-    /// It is good and bad.
+    /// The row is good and bad.
     Partial,
-    /// It is neither.
+    /// The row is neither good nor bad.
     Unknown,
 }
 

@@ -1,4 +1,4 @@
-//! The tokens of a tracker, and what may stand between them.
+//! The tokens of a tracker, and what may be between them.
 ghost use Rattle.std.specs.Prelude.{◌≡◌, ◌≤◌, ◌<◌, ◌+◌, IfSome, false, length, option_map};
 ghost use Rattle.std.specs.Prelude.{slice_index};
 ghost use Rattle.std.specs.List.{prefix_len};
@@ -21,7 +21,7 @@ fn after_line(text: &str) -> Option<&str>
     }
 }
 
-/// The text without the whitespace and the comments in front of it.
+/// The text without the whitespace and the comments at its front.
 pub fn skip(text: &str) -> &str
     ensures value { result.now ≡ skipped text.now }
     ensures shorter { length result.now ≤ length text.now }
@@ -70,7 +70,7 @@ pub fn common_len(a: &[u8], b: &[u8]) -> usize
     }
 }
 
-/// Where the slash stands that closes a pattern: the first one without a backslash before it.
+/// Where the slash is that closes a pattern: the first one without a backslash before it.
 fn pattern_len(bytes: &[u8]) -> Option<usize>
     ensures value { result ≡ pattern_end false bytes.now }
     ensures slash { IfSome result (λ n. (n < length bytes.now) × (slice_index bytes.now n ≡ 47)) }
@@ -85,7 +85,7 @@ fn pattern_len(bytes: &[u8]) -> Option<usize>
     None
 }
 
-/// What stands before the slash that closes a pattern, and what follows it.
+/// What is before the slash that closes a pattern, and what follows it.
 pub fn read_pattern(text: &str) -> Option<(&str, &str)>
     ensures value { option_map pair result ≡ pattern_in text.now }
     ensures shorter { IfSome result (λ x. length x.1.now ≤ length text.now) }

@@ -101,7 +101,7 @@ impl<'a> Tracker<'a> {
         })
     }
 
-    /// Reads a tracker. The first fault from the left decides, and a pattern stands before what
+    /// Reads a tracker. The first fault from the left decides, and a pattern comes before what
     /// follows it; then the keys that are missing, in the order `is_affected`, `is_good`, `is_bad`.
     pub fn read(alloc: Global, text: &'a str) -> Result<Tracker<'a>, TrackerFault>
         // What is read is the tracker of the text, and its patterns are those that `regex` reads.
@@ -112,7 +112,7 @@ impl<'a> Tracker<'a> {
         // may be too large.
         ensures only { (t : Tracking) → IsTracker text.now t →
             IfErr result (IsPatternFault (length text.now) (log_in (said_in text.now))) }
-        // A fault is the text's first, or want of memory.
+        // A fault is the text's first, unless memory runs out.
         ensures fault { IfErr result (FaultOf text.now) }
     {
         let mut keys = no_keys(alloc);
@@ -126,14 +126,14 @@ impl<'a> Tracker<'a> {
         }
     }
 
-    /// The title; empty where none was given.
+    /// The title; empty if none was given.
     pub fn title(&self) -> &'a str
         ensures title { result.now ≡ (tracking self.now).title }
     {
         self.title
     }
 
-    /// The status of the row of a key, where the archive has such a row and it is affected. The
+    /// The status of the row of a key, if the archive has such a row and it is affected. The
     /// queries are evaluated on the row's own stanzas; for many rows make `Marks` first.
     pub fn status(
         &self,

@@ -28,12 +28,12 @@ impl TrackerKey {
 /// Why a text isn't read as a tracker: the first fault from the left, then what is missing.
 #[derive(Clone, Copy, Debug, PartialEq, Eq, Error)]
 pub enum TrackerFault {
-    /// At this place stands the first byte that no token and no rule can take.
+    /// At this place is the first byte that no token and no rule can take.
     #[error("byte {0}: syntax")]
     Syntax(usize),
     #[error("no key {0:?}")]
     MissingKey(TrackerKey),
-    /// `regex` refuses the pattern whose opening `/` stands at this place, or finds it too large.
+    /// `regex` refuses the pattern whose opening `/` is at this place, or finds it too large.
     #[error("byte {0}: bad pattern")]
     BadPattern(usize),
     #[error("want of memory")]

@@ -27,7 +27,7 @@ pub struct Keys<'a> {
     pub log: Vec<RawPattern<'a>>,
 }
 
-/// Before the first key.
+/// What the keys have said before the first of them.
 pub fn no_keys<'a>(alloc: Global) -> Keys<'a>
     ensures nothing { said result ≡ nothing_said }
 {
@@ -120,7 +120,7 @@ fn read_value<'a>(
     }
 }
 
-// The `;` behind a value.
+// The `;` after a value.
 #[tactic(auto, unfolding(crate::specs::TrackerGrammar::ended))]
 fn read_end<'a>(text: &'a str, keys: &Keys<'a>) -> Result<&'a str, ReadFault>
     ensures gives { GivesSaid result keys.now (ended_of (said keys.now, text.now)) }
@@ -155,7 +155,7 @@ fn read_entry<'a>(alloc: Global, at: &'a str, keys: &mut Keys<'a>) -> Result<&'a
     }
 }
 
-// What stands behind whitespace and comments, if anything does.
+// What comes after whitespace and comments, if anything does.
 #[tactic(auto, unfolding(crate::specs::TrackerGrammar::front))]
 fn front(text: &str) -> Option<&str>
     ensures value { option_map (λ x. x.now) result ≡ front_of text.now }

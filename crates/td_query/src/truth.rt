@@ -31,7 +31,7 @@ fn is_found(matchers: &mut Vec<Matcher>, number: usize, value: &str) -> bool
 pub fn holds(query: &Query, stanza: &Stanza, matchers: &mut Vec<Matcher>) -> bool
     ensures truth { result ≡ truth (map matcher_pattern matchers.old.items) (fields_of stanza.now)
         (shape_of query.now) }
-    // So it does with any patterns that find alike.
+    // The answer is the same with any patterns that find alike.
     ensures alike { (ps : List Re) → AreAlike ps (map matcher_pattern matchers.old.items)
         → result ≡ truth ps (fields_of stanza.now) (shape_of query.now) }
     ensures same { map matcher_pattern matchers.new.items ≡ map matcher_pattern matchers.old.items }

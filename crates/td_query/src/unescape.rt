@@ -22,7 +22,7 @@ fn without_backslash(text: &str) -> &str
     }
 }
 
-/// What stands between a pattern's slashes, with `/` for each `\/`.
+/// What is between a pattern's slashes, with `/` for each `\/`.
 pub fn source(alloc: Global, raw: &str) -> Result<String, AllocError>
     ensures unescaped { IfOk result (λ s. string_bytes s ≡ unescaped raw.now) }
 {

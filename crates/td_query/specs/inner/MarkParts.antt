@@ -10,22 +10,21 @@ use Rattle.td_query.specs.declared.tracker.Tracker.{Tracker}
 use Rattle.td_query.specs.Marks.{MarkBetween, kept_fields, mark_on}
 use Rattle.td_query.specs.Tracking.{IsTracker, Tracking, tracking}
 
--- those of a file's stanzas from one with a number up to another, by any tracker that the text is
--- of
+-- the marks of a file's stanzas from one with a number up to another, by any tracker of the text
 abbrev pub AreMarksByText : Contents → IndexFile → List ℕ → ℕ → ℕ
     → Result (Vec Mark) AllocError → Type 0
 AreMarksByText a file text from to made =
     (t : Tracker) → IsTracker text (tracking t) → IfOk made (λ marks.
     MarkBetween (mark_on (tracking t)) (kept_fields a file) from to marks.items)
 
--- those of the packages from one with a number on, and those of the sources before another
+-- the marks of the packages from one with a number on, and of the sources before another
 abbrev pub AreRestAndFirst : Contents → Tracking → ℕ → ℕ
     → Result (Vec Mark × Vec Mark) AllocError → Type 0
 AreRestAndFirst a t from cut made = IfOk made (λ p.
     MarkBetween (mark_on t) (kept_fields a Packages) from (length a.binaries) p.0.items
     × (p.1.items ≡ map (mark_on t) (take cut (kept_fields a Sources))))
 
--- those of the packages from one with a number on, and those of the sources
+-- the marks of the packages from one with a number on, and of all sources
 abbrev pub AreRestAndSources : Contents → Tracking → ℕ
     → Result (Vec Mark × Vec Mark) AllocError → Type 0
 AreRestAndSources a t from made = IfOk made (λ p.

@@ -7,7 +7,7 @@ use Rattle.td_query.specs.Tracking.{tracking}
 use Rattle.td_query.specs.inner.Alike.{AreAlike}
 use Rattle.td_query.proofs.marking.mark_range.Given as goal
 
--- the marks up to the number
+-- the marks so far are those of the stanzas up to the number
 abbrev pub invariant-loop-number : goal.invariant-loop-number
 invariant-loop-number l = record {
   same : map matcher_pattern l.matchers.items ≡ map matcher_pattern l.fn.matchers.items;

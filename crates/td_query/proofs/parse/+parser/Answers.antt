@@ -43,7 +43,7 @@ read_parts-loop-after-preserved t c =
       utf8 = search rules;
     }
 
--- a `!`, and what stands behind it
+-- a `!`, and what comes after it
 pub read_not-returns-in_err-inner-clause-memory : goal.read_not-returns-in_err-inner-clause-memory
 read_not-returns-in_err-inner-clause-memory t c = λ is.
     opened_begun c.args.depth (c.args.depth - 1) c.args.text.now c.in-Some.rest.now (omega arith)
@@ -58,7 +58,7 @@ read_not-returns-in_err-inner-2-clause-memory t c = λ is.
     (joined_begun And (c.args.depth - 1) _ c.in-Some.rest.now
     (ap (λ (r : Read). is_ok r) c.in_ok-inner.ensures.gives))
 
--- a `(`, and what stands behind it
+-- a `(`, and what comes after it
 pub read_not-returns-in_err-inner-3-clause-memory :
     goal.read_not-returns-in_err-inner-3-clause-memory
 read_not-returns-in_err-inner-3-clause-memory t c = λ is.

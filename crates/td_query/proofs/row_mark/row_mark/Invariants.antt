@@ -5,7 +5,7 @@ use Rattle.td_query.specs.Marks.{gathered, mark_there}
 use Rattle.td_query.specs.Tracking.{tracking}
 use Rattle.td_query.proofs.row_mark.row_mark.Given as goal
 
--- what holds on the stanzas so far
+-- the mark says what holds on the stanzas so far
 abbrev pub invariant-loop-number : goal.invariant-loop-number
 invariant-loop-number l = record {
   same : map matcher_pattern l.matchers.items ≡ map matcher_pattern l.fn.matchers.items;

@@ -1,4 +1,4 @@
--- `stands_bounded`: the value hasn't the text.
+-- `stands_bounded`: what it answers if the value doesn't have the text.
 use Rattle.std.proofs.Common.{◌≡◌, ◌∙◌, sym, false, rules}
 use Rattle.std.proofs.lemmas.Bool.{false≢true}
 use Rattle.std.proofs.lemmas.Str.Pattern.{contains_text}

@@ -1,4 +1,4 @@
--- `Marks::may_be_affected`: what it answers where no mark is `affected`.
+-- `Marks::may_be_affected`: what it answers if no mark is `affected`.
 use Rattle.std.proofs.Common.{◌≡◌, false, get_or, ap, sym, ◌∙◌, take, take_all, rules, arith}
 use Rattle.std.specs.List.{list_any}
 use Rattle.td_query.specs.Marks.{no_mark}

@@ -4,7 +4,7 @@ use Rattle.td_query.specs.Marks.{AreMarks, gathered, mark_there}
 use Rattle.td_query.specs.Tracking.{Tracking}
 use Rattle.td_query.proofs.marks.Marks.row_mark.Given as goal
 
--- what holds on the stanzas so far
+-- the mark says what holds on the stanzas so far
 abbrev pub invariant-loop-number : goal.invariant-loop-number
 invariant-loop-number l = (t : Tracking) → AreMarks l.archive t l.self
     → l.mark ≡ gathered l.initial.mark (mark_there l.archive t.patterns t l.place)
