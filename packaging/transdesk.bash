@@ -17,7 +17,10 @@ _transdesk() {
         return
         ;;
     check) options="--archs --packages --sources --explain --help" ;;
-    track) options="--archs --packages --sources --tracker --state --chunk --explain --help" ;;
+    track)
+        options="--archs --packages --sources --tracker --state --only --summary --chunk"
+        options="$options --explain --help"
+        ;;
     waves) options="--archs --packages --sources --tracker --explain --help" ;;
     run)
         options="--archs --packages --sources --state --tracker --suite --builders --outcomes"
@@ -36,6 +39,9 @@ _transdesk() {
     --archs | --packages | --sources | --tracker | --state | --outcomes | --journal)
         compopt -o filenames 2> /dev/null
         mapfile -t COMPREPLY < <(compgen -f -- "$word")
+        ;;
+    --only)
+        mapfile -t COMPREPLY < <(compgen -W "good bad partial unknown bad,partial" -- "$word")
         ;;
     --chunk | --suite | --builders) ;;
     *)

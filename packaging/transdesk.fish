@@ -21,6 +21,8 @@ for subcommand in track waves run
 end
 complete -c transdesk -n '__fish_seen_subcommand_from track run' -l state -r -F -d 'Rows in the place of others'
 complete -c transdesk -n '__fish_seen_subcommand_from simulate check track waves run' -l explain -d 'Say where a refused text is wrong'
+complete -c transdesk -n '__fish_seen_subcommand_from track' -l only -x -a 'good bad partial unknown bad,partial' -d 'Statuses of the rows that are printed'
+complete -c transdesk -n '__fish_seen_subcommand_from track' -l summary -d 'Print no rows'
 complete -c transdesk -n '__fish_seen_subcommand_from track' -l chunk -x -d 'Rows of a piece'
 complete -c transdesk -n '__fish_seen_subcommand_from run' -l suite -x -d 'The suite that lines name'
 complete -c transdesk -n '__fish_seen_subcommand_from run' -l builders -x -d 'How many build'

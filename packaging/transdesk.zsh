@@ -32,6 +32,8 @@ _transdesk() {
         check) _arguments $indices $explain '--help[tell of the subcommand]' ;;
         track)
             _arguments $indices $tracker '--state=[rows in the place of others]:file:_files' \
+                '--only=[statuses of the rows that are printed]:statuses:(good bad partial unknown bad,partial)' \
+                '--summary[print no rows]' \
                 '--chunk=[rows of a piece]:rows:' $explain '--help[tell of the subcommand]'
             ;;
         run)

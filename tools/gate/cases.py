@@ -13,6 +13,8 @@ EXAMPLES = f"{TOP}/examples"
 INDICES = ("archs", "packages", "sources")
 OF_ARCHIVE = (*INDICES, "tracker")
 OF_CASE = ("state", "journal", "outcomes")
+# The files of a case that have an option's value, and those that stand for an option without one.
+VALUES, FLAGS = ("builders", "only"), ("summary",)
 # What each subcommand reads, in this order.
 READ_BY = {
     "simulate": (),
@@ -99,9 +101,9 @@ class Case:
 
     def words(self):
         """The words by which the program is called."""
-        builders = self.builders()
-        crew = [f"--builders={builders}"] if builders else []
-        return [self.command, *options(self.files()), *crew]
+        values = {name: self.read(name).decode().strip() for name in VALUES if self.has(name)}
+        flags = [f"--{name}" for name in FLAGS if self.has(name)]
+        return [self.command, *options(self.files()), *options(values), *flags]
 
     def wanted(self):
         """The exit status, standard output and standard error that the case has to end with."""

@@ -4,7 +4,7 @@ use Rattle.td_bytes.specs.declared.text.TextFault.{TextFault}
 use Rattle.td_bytes.specs.declared.text.TextFault.TheVariants.{CannotRead, TooLong, NotText}
 use Rattle.td_bytes.specs.declared.text.TextFault.TheVariants.{NoMemory}
 
--- whether a text isn't read for want of room: there is more than the limit, or than the memory
+-- whether a text isn't read for lack of room: it is longer than the limit, or than the memory
 abbrev pub lacks_room : TextFault → Bool
 lacks_room CannotRead = false
 lacks_room TooLong = true

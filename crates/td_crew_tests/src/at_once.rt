@@ -1,10 +1,10 @@
-//! Builds of which so many end at once.
+//! Builds that end only when a number of them are under way.
 use std::sync::{Barrier, Wait};
 use td_book::Job;
 use td_builder::Builds;
 use td_rows::Outcome;
 
-/// Builds that wait until so many are under way: none ends before. With fewer they wait for good.
+/// Builds that wait until a number of them are under way. With fewer they wait for good.
 #[derive(Drop)]
 pub(crate) struct AtOnce {
     all_under_way: Barrier,

@@ -15,7 +15,7 @@ pub(crate) fn made<T, E: Debug + Drop>(rt: &impl Abort, made: Result<T, E>) -> T
     }
 }
 
-/// Whether a case is told in this text.
+/// Whether the text of a case is the expected one.
 pub(crate) fn is_told<E: Debug + Drop>(
     rt: &impl Abort,
     told: Result<String, E>,

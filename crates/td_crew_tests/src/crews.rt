@@ -45,7 +45,7 @@ fn inputs(alloc: Global, builders: u8) -> Result<Inputs, AllocError> {
     inputs_over(alloc, PACKAGES, SOURCES, builders)
 }
 
-// How many lines are refused, or the fault, and behind it what is written.
+// How many lines are refused, or the fault, and after it what is written.
 fn spelled<F: Debug>(
     alloc: Global,
     end: &Result<ScriptEnd, F>,
@@ -131,7 +131,7 @@ fn long_script(alloc: Global) -> Result<String, AllocError> {
     Ok(script)
 }
 
-// What the answers to that script end with where a builder builds on amd64 by then: the entry of
+// What the answers to `long_script` end with if a builder builds on amd64 by then: the entry of
 // its claim comes before that of the command. Neither build ends before the other has begun.
 const BEGUN_BEFORE: &str = "\
 entry 2 takes foo/i386
@@ -166,7 +166,7 @@ fn a_builder_builds_while_a_script_is_answered(rt: HostRuntime) {
     assert!(rt; is_one);
 }
 
-// So many sources of which nothing was built.
+// The stanzas of `count` sources of which nothing was built.
 fn unbuilt(alloc: Global, count: u8) -> Result<String, AllocError> {
     let mut sources = String::new(alloc);
     for number in 0..count {
@@ -178,7 +178,7 @@ fn unbuilt(alloc: Global, count: u8) -> Result<String, AllocError> {
     Ok(sources)
 }
 
-// That a crew of so many builders builds as many rows at once. Each builder has one row at most.
+// Whether a crew of this many builders builds as many rows at once, one row each.
 fn all_build(rt: &(impl Threads + Wait + Abort + Sync), alloc: Global, builders: u8) {
     let sources = made(rt, unbuilt(alloc, builders));
     let inputs = made(rt, inputs_over(alloc, "", sources.as_str(), builders));

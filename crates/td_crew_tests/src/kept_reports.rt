@@ -1,4 +1,4 @@
-//! What no clause can say: that a report by kept counts is made where there is memory. The counts
+//! What no clause can say: that a report by kept counts is made if there is memory. The counts
 //! are made here, row by row; the text is that of `reports`.
 ghost use Rattle.std.specs.Prelude.{◌≡◌, IfOk, IfSome, slice_get};
 ghost use Rattle.td_report.specs.Groups.{AreCounts, installed_of, is_there as is_there_of};

@@ -2,7 +2,7 @@
 //!
 //! Start at `tools`, which asks the program for each subcommand, then `reports` and `crews`.
 //! `archive` and `waves` are what they run over, `path_texts` the files in memory, `at_once` builds
-//! that wait for one another. They stand in a crate of their own, over public calls, so that
+//! that wait for one another. They are in a crate of their own, over public calls, so that
 //! nothing is proved a second time with its tests.
 #![tactic(auto)]
 

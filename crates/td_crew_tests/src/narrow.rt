@@ -27,7 +27,7 @@ impl Write for Narrow {
     }
 }
 
-// It fails where memory runs out.
+// A narrow writer fails if memory runs out.
 impl Writer for Narrow {
     ghost can_fail = { λ _. true };
 

@@ -1,4 +1,4 @@
-//! Files in memory, of which clauses know all: the text of each is its path.
+//! Files in memory that clauses know whole: the text of each is its path.
 use std::alloc::Global;
 use std::thread::Threads;
 use td_bytes::TextFault;

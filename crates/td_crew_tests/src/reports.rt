@@ -1,6 +1,6 @@
-//! What no clause can say: that each call that makes a report, or waves, makes it where there is
-//! memory. The archive, the tracker and the texts are this project's worked examples; behind the
-//! archive 3,000 sources more may stand that the tracker doesn't affect, of which nothing is said.
+//! What no clause can say: that each call that makes a report, or waves, makes it if there is
+//! memory. The archive, the tracker and the texts are this project's worked examples. After the
+//! archive 3,000 more sources may come that the tracker doesn't affect: no report has them.
 ghost use Rattle.td_query.specs.Tracking.{IsTracker, tracking};
 ghost use Rattle.td_report.specs.TransitionView.{IsMade};
 
@@ -13,7 +13,7 @@ use std::thread::Threads;
 use td_indices::Archive;
 use td_query::Tracker;
 use td_relation::Archs;
-use td_report::Transition;
+use td_report::{Shown, Transition};
 use td_rows::Rows;
 
 // The report of these rows, as each call makes it.
@@ -26,11 +26,11 @@ fn are_reported(
     requires { IsMade transition.now }
 {
     is_told(rt, transition.report(alloc, rows), REPORT, "report");
-    let by_one = transition.report_split(rt, alloc, rows, 1);
+    let by_one = transition.report_split(rt, alloc, rows, Shown::all(), 1);
     is_told(rt, by_one, REPORT, "report_split by 1");
-    let by_two = transition.report_split(rt, alloc, rows, 2);
+    let by_two = transition.report_split(rt, alloc, rows, Shown::all(), 2);
     is_told(rt, by_two, REPORT, "report_split by 2");
-    let by_five = transition.report_split(rt, alloc, rows, 5);
+    let by_five = transition.report_split(rt, alloc, rows, Shown::all(), 5);
     is_told(rt, by_five, REPORT, "report_split by 5");
 }
 
@@ -77,7 +77,7 @@ fn of_all_rows(
     drop(transition);
 }
 
-// A transition with the rows of its affected sources alone.
+// A transition with only the rows of its affected sources.
 fn with_opening_rows(
     rt: &(impl Threads + Abort + Sync),
     alloc: Global,
@@ -116,7 +116,7 @@ fn a_report_is_one_text_whichever_call_makes_it(rt: HostRuntime) {
     over_texts(&rt, rt.alloc(), PACKAGES, SOURCES);
 }
 
-// Behind a text, the stanzas of 3,000 sources that ask for nothing.
+// A text, and after it the stanzas of 3,000 sources that ask for nothing.
 fn lengthened(alloc: Global, text: &str) -> Result<String, AllocError> {
     let mut long = String::from_str(alloc, text)?;
     for number in 0..3000 {

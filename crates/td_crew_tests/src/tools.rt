@@ -1,4 +1,4 @@
-//! What no clause can say: that each subcommand answers where there is memory, over files of which
+//! What no clause can say: that each subcommand answers if there is memory, over files of which
 //! clauses know all. The archive, the words and the answers are this project's worked examples.
 use crate::checks::{is_told, made};
 use crate::path_texts::PathTexts;
@@ -19,7 +19,7 @@ const ARCHIVE: [&str; 6] = [
     SOURCES,
 ];
 
-// Behind the words of the others.
+// Appends the words of the others.
 fn put_words(words: &mut Vec<String>, others: &[&str]) -> Result<(), AllocError> {
     let alloc = *words.allocator();
     for other in others {
@@ -28,7 +28,7 @@ fn put_words(words: &mut Vec<String>, others: &[&str]) -> Result<(), AllocError>
     Ok(())
 }
 
-// The words of a subcommand, of which the simulation has no files.
+// The words of a subcommand; the simulation has no files.
 fn words(alloc: Global, subcommand: &str, others: &[&str]) -> Result<Vec<String>, AllocError> {
     let mut words = Vec::new(alloc);
     put_words(&mut words, &["transdesk", subcommand])?;
@@ -39,7 +39,7 @@ fn words(alloc: Global, subcommand: &str, others: &[&str]) -> Result<Vec<String>
     Ok(words)
 }
 
-// The status, and behind it what was written and what was said of faults.
+// The status, and after it standard output and standard error.
 fn spelled(alloc: Global, status: u8, output: &[u8], faults: &[u8]) -> Result<String, AllocError> {
     let output = String::from_utf8_lossy(alloc, output)?;
     let faults = String::from_utf8_lossy(alloc, faults)?;
@@ -67,7 +67,7 @@ fn told<R: Threads + Wait + Sync>(
     spelled(alloc, status, output.as_slice(), faults.as_slice())
 }
 
-// A subcommand, its words behind the archive, the standard input, the status and what is written.
+// A subcommand, its words after the archive, the standard input, the status and what is written.
 type Case = (
     &'static str,
     &'static [&'static str],

@@ -1,4 +1,4 @@
-//! The archive in `examples/archives/waves`, its tracker, and what is told of them: five sources
+//! The archive in `examples/archives/waves`, its tracker, and what is answered: five sources
 //! that build on one another. This project's own worked example.
 
 pub(crate) const ARCHS: &str = "amd64 linux amd64\n";

@@ -27,7 +27,7 @@ use Rattle.td_report.specs.inner.Blocks.{AreInstalledCounts, installed_at}
 use Rattle.td_report.specs.inner.ItemLines.{seen}
 use Rattle.td_report.specs.declared.transition.Transition.{Transition}
 
--- one row more, of which a group is counted as a level is
+-- one row more, if a group is counted as a level is
 one-more : (level : Level) (group depth : ℕ) (l : Option Level)
     → is_group (level_group depth l) group ≡ is_level level l
     → (s : Option Status) (key : Key) (row : Row) (rest : List AffectedRow) (n : ℕ)
@@ -116,7 +116,7 @@ counts-levels x rows counts deep are = record {
       (λ k is. deep.within source k is)) rows);
 }
 
--- and so they are of the rows where they were read, if counts are given at all
+-- counts of groups, if any are given, are those of the levels of the rows that were read
 pub counts_read : (x : Transition) (rows : Table) (items now : List Item) (d : ℕ)
     (counts : Option (Bor (List ℕ))) → IsDepth (level_of x) (depth_of x)
     → map seen items ≡ affected_rows (contents_of x) (tracking_of x) (level_of x) rows

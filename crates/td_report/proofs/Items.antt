@@ -1,4 +1,4 @@
--- The affected rows among the first so many, and where their sources stand.
+-- The affected rows among the first ones, and the levels of their sources.
 use Rattle.std.proofs.Common.{◌≡◌, ◌<◌, ◌+◌, ◌++◌, ◌∷◌, [], ℕ, List, Option, None, Some, map, take}
 use Rattle.std.proofs.Common.{length, slice_get, inl, inr, refl, sym, ap, subst, ◌∙◌}
 use Rattle.std.proofs.Common.{arith}
@@ -23,10 +23,11 @@ use Rattle.td_waves.specs.Levels.{IsDepth, StandsAt}
 use Rattle.td_waves.specs.Waves.{BuildsOn}
 use Rattle.td_waves.specs.Waves as of_waves
 use Rattle.td_report.specs.declared.item.Item.{Item}
+use Rattle.td_report.specs.declared.shown.Shown.{Shown}
 use Rattle.td_text.specs.Lines.{text_of}
 use Rattle.td_report.specs.inner.ItemLines.{seen}
-use Rattle.td_report.specs.Report.{AffectedRow, report_lines, waves_lines}
-use Rattle.td_report.specs.Transition.{AreLevels, IsAffected, IsReport, IsWaves, affected_rows}
+use Rattle.td_report.specs.Report.{AffectedRow, lines_showing, waves_lines}
+use Rattle.td_report.specs.Transition.{AreLevels, IsAffected, IsReportOf, IsWaves, affected_rows}
 
 -- ---- one row more
 
@@ -47,7 +48,7 @@ rows-more {B} f rows n o lt e = elim (slice_get_cases rows n).1 [
   | inr h ↦ absurd (omega (arith, h.0, lt))
 ]
 
--- with a row that is affected
+-- one row more, which is affected
 pub items-more : (f : Key × Row → Option AffectedRow) (rows : Table) (n : ℕ) (items : List Item)
     (item : Item) → n < length rows → Some (seen item) ≡ option_map_or f (slice_get rows n) None
     → map seen items ≡ filter_map f (take n rows)
@@ -57,7 +58,7 @@ items-more f rows n items item lt is so =
     ∙ ap (λ (l : List AffectedRow). l ++ seen item ∷ []) so
     ∙ sym (rows-more f rows n (Some (seen item)) lt is)
 
--- with a row that isn't
+-- one row more, which isn't affected
 pub items-same : (f : Key × Row → Option AffectedRow) (rows : Table) (n : ℕ)
     (told : List AffectedRow) → n < length rows → None ≡ option_map_or f (slice_get rows n) None
     → told ≡ filter_map f (take n rows) → told ≡ filter_map f (take (n + 1) rows)
@@ -85,21 +86,22 @@ are_levels a t names level depth is stands deep = record {
 
 -- ---- the texts
 
-pub is_report : (a : Contents) (t : Tracking) (level : List ℕ → Option Level) (depth : ℕ)
-    (rows : Table) (items now : List Item) (title : List ℕ) (d : ℕ) (text : List ℕ)
+pub is_report : (shown : Shown) (a : Contents) (t : Tracking) (level : List ℕ → Option Level)
+    (depth : ℕ) (rows : Table) (items now : List Item) (title : List ℕ) (d : ℕ) (text : List ℕ)
     → AreLevels a t level depth
-    → text ≡ text_of (report_lines title d (map seen now)) → title ≡ t.title → d ≡ depth
-    → now ≡ items → map seen items ≡ affected_rows a t level rows → IsReport a t rows text
-is_report a t level depth rows items now title d text levels written titled deep same are = record {
-  level = level;
-  depth = depth;
-  levels = levels;
-  written =
-      written
-      ∙ ap (λ x. text_of (report_lines x d (map seen now))) titled
-      ∙ ap (λ x. text_of (report_lines t.title x (map seen now))) deep
-      ∙ ap (λ x. text_of (report_lines t.title depth x)) (ap (map seen) same ∙ are);
-}
+    → text ≡ text_of (lines_showing shown title d (map seen now)) → title ≡ t.title → d ≡ depth
+    → now ≡ items → map seen items ≡ affected_rows a t level rows → IsReportOf shown a t rows text
+is_report shown a t level depth rows items now title d text levels written titled deep same are =
+    record {
+      level = level;
+      depth = depth;
+      levels = levels;
+      written =
+          written
+          ∙ ap (λ x. text_of (lines_showing shown x d (map seen now))) titled
+          ∙ ap (λ x. text_of (lines_showing shown t.title x (map seen now))) deep
+          ∙ ap (λ x. text_of (lines_showing shown t.title depth x)) (ap (map seen) same ∙ are);
+    }
 
 pub are_waves : (a : Contents) (t : Tracking) (level : List ℕ → Option Level) (depth : ℕ)
     (rows : Table) (items now : List Item) (d : ℕ) (text : List ℕ) → AreLevels a t level depth

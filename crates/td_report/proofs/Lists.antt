@@ -1,4 +1,4 @@
--- Lists of rows, of which one gets a row more.
+-- Lists of rows, one of which gets a row more.
 use Rattle.std.proofs.Common.{◌≡◌, ◌<◌, ◌+◌, ◌-◌, ◌==◌, ℕ, List, [], ◌∷◌, ◌++◌, length, sym}
 use Rattle.std.proofs.Common.{ap, ◌∙◌, inl, inr, arith, if◌then◌else◌, get_or, set, map}
 use Rattle.std.proofs.Common.{get_or-set_other, Option, Some, None, slice_get, subst}

@@ -1,4 +1,4 @@
--- Texts, each once where it stands several times on end: what one more adds.
+-- Texts, each once if it comes several times on end: what one more adds.
 use Rattle.std.proofs.Common.{◌≡◌, ℕ, Bool, true, false, List, Option, None, Some, [], ◌∷◌, ◌++◌}
 use Rattle.std.proofs.Common.{map, take, length, get_or, ◌<◌, ◌+◌, refl, sym, ap, ◌∙◌, append_assoc}
 use Rattle.std.proofs.Common.{if◌then◌else◌}
@@ -9,7 +9,7 @@ use Rattle.td_text.specs.Lines.{text_of}
 use Rattle.td_report.specs.Report.{each_once, is_last}
 use Rattle.td_report.proofs.Texts.{text_of-append}
 
--- the last of texts, behind a last one
+-- the last of texts, after a last one
 abbrev pub last_of : Option (List ℕ) → List (List ℕ) → Option (List ℕ)
 last_of last [] = last
 last_of last (text ∷ texts) = last_of (Some text) texts
@@ -30,7 +30,7 @@ once-push last (first ∷ texts) text =
     (each_once (Some first) texts)
     (if is_last (last_of (Some first) texts) text then [] else text ∷ []))
 
--- the text of one that is another than the last
+-- a text that isn't the last one adds a line
 pub text-new : (texts : List (List ℕ)) (text : List ℕ) → is_last (last_of None texts) text ≡ false
     → text_of (each_once None (texts ++ text ∷ [])) ≡ text_of (each_once None texts)
     ++ (text ++ 10 ∷ [])
@@ -41,7 +41,7 @@ text-new texts text other =
     ∙ text_of-append (each_once None texts) (text ∷ [])
     ∙ ap (λ (t : List ℕ). text_of (each_once None texts) ++ t) (append-nil (text ++ 10 ∷ []))
 
--- and of one that is the last
+-- a text that is the last one adds nothing
 pub text-same : (texts : List (List ℕ)) (text : List ℕ) → is_last (last_of None texts) text ≡ true
     → text_of (each_once None (texts ++ text ∷ [])) ≡ text_of (each_once None texts)
 text-same texts text same =

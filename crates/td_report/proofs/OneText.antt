@@ -10,10 +10,11 @@ use Rattle.td_waves.specs.declared.level.Level.TheVariants.{At, Cyclic}
 use Rattle.td_waves.specs.Levels.{IsDepth, StandsAt}
 use Rattle.td_waves.specs.Waves.{BuildsOn}
 use Rattle.td_waves.proofs.SameLevel.{same_level}
-use Rattle.td_report.specs.Report.{report_lines, waves_lines}
-use Rattle.td_report.specs.Transition.{AreLevels, IsAffected, IsReport, IsWaves, affected_rows}
+use Rattle.td_report.specs.Report.{lines_showing, waves_lines}
+use Rattle.td_report.specs.declared.shown.Shown.{Shown}
+use Rattle.td_report.specs.Transition.{AreLevels, IsAffected, IsReportOf, IsWaves, affected_rows}
 
--- a thing stands at one place
+-- a thing is at one level
 pub stands_once : {X : Type 0} (A : X → Type 0) (B : X → X → Type 0) (x : X) (o p : Option Level)
     → StandsAt A B x o → StandsAt A B x p → o ≡ p
 stands_once A B x None None h g = refl
@@ -47,13 +48,14 @@ module _ (a : Contents) (t : Tracking) (level other : List ℕ → Option Level)
       let more = no_deeper other e d g.deep deep in
       omega (arith, less, more)
 
-pub one_report : (a : Contents) (t : Tracking) (rows : Table) (text other : List ℕ)
-    → IsReport a t rows text → IsReport a t rows other → text ≡ other
-one_report a t rows text other x y =
+pub one_report : (shown : Shown) (a : Contents) (t : Tracking) (rows : Table)
+    (text other : List ℕ)
+    → IsReportOf shown a t rows text → IsReportOf shown a t rows other → text ≡ other
+one_report shown a t rows text other x y =
     x.written
-    ∙ ap (λ l. text_of (report_lines t.title x.depth (affected_rows a t l rows)))
+    ∙ ap (λ l. text_of (lines_showing shown t.title x.depth (affected_rows a t l rows)))
     (same_levels a t x.level y.level x.depth y.depth x.levels y.levels)
-    ∙ ap (λ d. text_of (report_lines t.title d (affected_rows a t y.level rows)))
+    ∙ ap (λ d. text_of (lines_showing shown t.title d (affected_rows a t y.level rows)))
     (same_depth a t x.level y.level x.depth y.depth x.levels y.levels)
     ∙ sym y.written
 

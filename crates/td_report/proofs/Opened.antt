@@ -17,7 +17,7 @@ use Rattle.td_report.specs.TransitionView.{contents_of, tracking_of}
 use Rattle.td_report.specs.declared.transition.Transition.{Transition}
 use Rattle.td_report.proofs.Unaffected.{affected-by_status, no_status}
 
--- a list without some items of which nothing is made
+-- a list without some items from which nothing is made
 filter_map-filter : {A B : Type 0} (f : A → Option B) (keep : A → Bool) (xs : List A)
     → ((x : A) → keep x ≡ false → f x ≡ None) → filter_map f (filter keep xs) ≡ filter_map f xs
 filter_map-filter f keep [] none = refl

@@ -1,10 +1,10 @@
--- What chunks have side by side is what the whole has.
+-- What chunks have one after the other is what the whole has.
 use Rattle.std.proofs.Common.{◌≡◌, ℕ, List, [], ◌∷◌, ◌++◌, map, refl, sym, ap, ◌∙◌, Result, Ok}
 use Rattle.std.proofs.Common.{Err}
 use Rattle.std.specs.Prelude.{MatchResult, IfOk}
 use Rattle.std.specs.List.{AllZip, flat_map}
 
--- what stands for each item, one after the other
+-- what is made of each item, one after the other
 pub flat_map-zipped : {X Y E : Type 0} (P : X → Result Y E → Type 0) (f : X → List ℕ)
     (g : Y → List ℕ)
     → ((x : X) (y : Y) → P x (Ok y) → g y ≡ f x) → (xs : List X) (ys : List Y)

@@ -4,6 +4,7 @@ use Rattle.std.proofs.Common.{◌<◌, append_assoc, filter, get_or, length, tak
 use Rattle.std.specs.List.{flat_map, range_with_len}
 use Rattle.std.proofs.lemmas.Grind.{flat_map-append}
 use Rattle.std.proofs.lemmas.List.{append-nil, map-append, take_more}
+use Rattle.std.proofs.lemmas.List.Elements.{filter-append}
 use Rattle.std.proofs.lemmas.List.Folds.{flat_map-map}
 use Rattle.std.proofs.lemmas.List.FromFn.{map-range_with_len_more}
 use Rattle.td_text.specs.Lines.{text_of}
@@ -11,8 +12,9 @@ use Rattle.td_waves.specs.declared.level.Level.{Level}
 use Rattle.td_waves.specs.declared.level.Level.TheVariants.{At}
 use Rattle.td_report.specs.declared.block.Block.{Block}
 use Rattle.td_report.specs.declared.item.Item.{Item}
+use Rattle.td_report.specs.declared.shown.Shown.{Shown}
 use Rattle.td_report.specs.inner.Blocks.{AreBlocks, LevelRows, texts_of, told_at, told_of}
-use Rattle.td_report.specs.inner.ItemLines.{item_line, seen, stands_at}
+use Rattle.td_report.specs.inner.ItemLines.{is_shown, item_line, seen, stands_at}
 use Rattle.td_report.specs.inner.LinesText.{lines_text}
 use Rattle.td_report.specs.Report.{AffectedRow, levels}
 use Rattle.td_report.specs.Report as report
@@ -21,11 +23,26 @@ use Rattle.td_report.proofs.SeenRows.{standing-seen}
 pub text_of-append : (xs ys : List (List ℕ)) → text_of (xs ++ ys) ≡ text_of xs ++ text_of ys
 text_of-append xs ys = flat_map-append (λ line. line ++ 10 ∷ []) xs ys
 
-pub lines-append : (xs ys : List Item) → lines_text (xs ++ ys) ≡ lines_text xs ++ lines_text ys
-lines-append xs ys = ap text_of (map-append item_line xs ys)
-    ∙ text_of-append (map item_line xs) (map item_line ys)
+pub lines-append : (shown : Shown) (xs ys : List Item)
+    → lines_text shown (xs ++ ys) ≡ lines_text shown xs ++ lines_text shown ys
+lines-append shown xs ys =
+    let told = λ (is : List Item). map item_line (filter (is_shown shown) is) in
+    ap (λ is. text_of (map item_line is)) (filter-append (is_shown shown) xs ys)
+    ∙ ap text_of (map-append item_line (filter (is_shown shown) xs) (filter (is_shown shown) ys))
+    ∙ text_of-append (told xs) (told ys)
 
--- ---- blocks of levels, one behind the other
+-- the lines of one row more
+pub lines-more : (shown : Shown) (items : List Item) (i : ℕ) (item : Item) (now after : List ℕ)
+    → i < length items → item ≡ get_or items i item
+    → after ≡ now ++ lines_text shown (item ∷ []) → now ≡ lines_text shown (take i items)
+    → after ≡ lines_text shown (take (i + 1) items)
+lines-more shown items i item now after lt is put so =
+    put ∙ ap (λ (t : List ℕ). t ++ lines_text shown (item ∷ [])) so
+    ∙ ap (λ x. lines_text shown (take i items) ++ lines_text shown (x ∷ [])) is
+    ∙ sym (ap (lines_text shown) (take_more items i item lt)
+    ∙ lines-append shown (take i items) (get_or items i item ∷ []))
+
+-- ---- blocks of levels, one after the other
 
 -- one level more
 pub levels-more : (n : ℕ)
@@ -57,7 +74,7 @@ module _ (lines : Level → List AffectedRow → List (List ℕ)) where
   abbrev own : LevelRows → List ℕ
   own t = text_of (lines t.level t.rows)
 
-  -- that of one block more
+  -- the text of one block more
   pub texts-more : (bs : List Block) (i : ℕ) (b : Block) (start now after : List ℕ)
       → i < length bs → b ≡ get_or bs i b
       → after ≡ now ++ text_of (lines b.level (map seen b.items.now))
@@ -83,8 +100,7 @@ module _ (lines : Level → List AffectedRow → List (List ℕ)) where
       ∙ sym (text_of-append (lines l (filter (report.stands_at l) rows))
       (flat_map (λ l. lines l (filter (report.stands_at l) rows)) ls))
 
-  -- those of all blocks are that of the levels' lines: so they are where they were put behind a
-  -- text, from where they were read
+  -- the texts of all blocks, put after a text, are the lines of the levels
   pub blocks-put : (depth : ℕ) (rows : List AffectedRow) (bs now : List Block)
       (start after : List ℕ) → AreBlocks depth rows bs → now ≡ bs
       → after ≡ start ++ texts_of lines now

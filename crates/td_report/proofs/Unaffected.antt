@@ -1,4 +1,4 @@
--- A row whose source stands at no level isn't affected.
+-- A row whose source is at no level isn't affected.
 use Rattle.std.proofs.Common.{◌≡◌, ◌<◌, ℕ, Bool, true, List, [], ◌∷◌, Option, None, Some, length}
 use Rattle.std.proofs.Common.{filter, get_or, map, option_map, position, slice_get, refl, sym, ap}
 use Rattle.std.proofs.Common.{subst, ◌∙◌, ◌&&◌, inl, inr}
@@ -27,7 +27,7 @@ use Rattle.td_waves.specs.Levels.{StandsAt}
 use Rattle.td_waves.specs.Waves.{BuildsOn}
 use Rattle.td_report.specs.Transition.{AreLevels, IsAffected, affected_row}
 
--- where something was made of what was there
+-- if something was made, it was made of what was there
 pub made_of : {A B : Type 0} (f : A → Option B) (o : Option A) (b : B)
     → option_map_or f o None ≡ Some b → (x : A) × (o ≡ Some x) × (f x ≡ Some b)
 made_of f None b is = absurd cc

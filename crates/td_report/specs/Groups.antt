@@ -12,14 +12,14 @@ use Rattle.td_waves.specs.declared.level.Level.TheVariants.{At, Cyclic}
 use Rattle.td_report.specs.TransitionView.{contents_of, depth_of, level_of, tracking_of}
 use Rattle.td_report.specs.declared.transition.Transition.{Transition}
 
--- the group of a level, of so many: that of level k has number k - 1, and that of what is cyclic
--- the number behind them
+-- the group of a level: level k has number k - 1, and what is cyclic has the number after all
+-- levels
 abbrev pub level_group : ℕ → Option Level → Option ℕ
 level_group depth None = None
 level_group depth (Some (At k)) = Some (k - 1)
 level_group depth (Some Cyclic) = Some depth
 
--- the group of a key's row: none where it isn't affected
+-- the group of a key's row: none if it isn't affected
 abbrev pub group_of : Transition → Key → Option ℕ
 group_of x k =
     if is_some (status_of (contents_of x) (tracking_of x) k)

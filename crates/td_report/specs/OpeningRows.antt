@@ -9,7 +9,7 @@ use Rattle.td_report.specs.Transition.{affected_rows}
 use Rattle.td_report.specs.TransitionView.{contents_of, tracking_of}
 use Rattle.td_report.specs.declared.transition.Transition.{Transition}
 
--- of these rows just those are affected that are of all opening rows, wherever their sources stand
+-- these rows have just the affected rows that all opening rows have, whatever their levels are
 pub record StandForAll (x : Transition) (rows : Table) : Type 0 where
   pub all : Table
   pub opened : (k : Key) → row_of all k ≡ opening_row (contents_of x) k

@@ -13,20 +13,21 @@ use Rattle.td_query.specs.Tracking.{Tracking}
 use Rattle.td_waves.specs.declared.level.Level.{Level}
 use Rattle.td_waves.specs.Levels.{IsDepth, StandsAt}
 use Rattle.td_waves.specs.Waves.{BuildsOn}
-use Rattle.td_report.specs.Report.{AffectedRow, report_lines, waves_lines}
+use Rattle.td_report.specs.Report.{AffectedRow, all_shown, lines_showing, waves_lines}
+use Rattle.td_report.specs.declared.shown.Shown.{Shown}
 
 -- a source of the archive with this name is affected
 abbrev pub IsAffected : Contents → Tracking → List ℕ → Type 0
 IsAffected a t source = IsTrue (list_any (bytes_eq source) (affected_names a t))
 
 -- the levels of the affected sources:
--- where each stands by which of them build on which, and how many levels there are
+-- each by which of them build on which, and how many levels there are
 pub record AreLevels (a : Contents) (t : Tracking) (level : List ℕ → Option Level)
     (depth : ℕ) : Type 0 where
   pub stands : (source : List ℕ) → StandsAt (IsAffected a t) (BuildsOn a) source (level source)
   pub deep : IsDepth level depth
 
--- a row with its key, where it is affected
+-- a row with its key, if it is affected
 abbrev pub affected_row : Contents → Tracking → (List ℕ → Option Level) → Key × Row
     → Option AffectedRow
 affected_row a t level p = option_map (λ status.
@@ -36,15 +37,20 @@ affected_row a t level p = option_map (λ status.
 abbrev pub affected_rows : Contents → Tracking → (List ℕ → Option Level) → Table → List AffectedRow
 affected_rows a t level rows = filter_map (affected_row a t level) rows
 
--- a text is the report of a tracker over an archive and rows
-pub record IsReport (a : Contents) (t : Tracking) (rows : Table) (text : List ℕ) : Type 0 where
+-- a text is the report of a tracker over an archive and rows that shows some of the rows
+pub record IsReportOf (shown : Shown) (a : Contents) (t : Tracking) (rows : Table)
+    (text : List ℕ) : Type 0 where
   pub level : List ℕ → Option Level
   pub depth : ℕ
   pub levels : AreLevels a t level depth
-  pub written : text ≡ text_of (report_lines t.title depth (affected_rows a t level rows))
+  pub written : text ≡ text_of (lines_showing shown t.title depth (affected_rows a t level rows))
+
+-- a text is the report that shows each row
+abbrev pub IsReport : Contents → Tracking → Table → List ℕ → Type 0
+IsReport a t rows text = IsReportOf all_shown a t rows text
 
 -- a text is that of the waves of a tracker over an archive and rows:
--- each affected source with such a row under its level
+-- each affected source that has one of these rows, under its level
 pub record IsWaves (a : Contents) (t : Tracking) (rows : Table) (text : List ℕ) : Type 0 where
   pub level : List ℕ → Option Level
   pub depth : ℕ

@@ -1,5 +1,4 @@
--- What contracts within this crate cite, of rows and blocks where they lie in memory: a file a
--- thing.
+-- What contracts within this crate cite, of rows and blocks in memory: a file a thing.
 pub mod ItemLines
 pub mod Grouped
 pub mod Blocks

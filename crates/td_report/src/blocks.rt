@@ -23,7 +23,7 @@ fn installed(items: &[Item<'_>], counts: Option<&[usize]>, group: usize) -> usiz
     }
 }
 
-/// The blocks of all levels, and behind them that of what is cyclic. Where counts of Installed rows
+/// The blocks of all levels, and after them that of what is cyclic. If counts of Installed rows
 /// are given, that of level k with number k - 1 and that of what is cyclic as the last, these are
 /// taken.
 pub fn blocks<'g, 'r>(

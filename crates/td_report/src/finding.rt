@@ -12,7 +12,7 @@ impl<'b, 't, 'a, 'q> Transition<'b, 't, 'a, 'q> {
     ghost use Rattle.td_report.specs.Transition.{affected_row, affected_rows};
     ghost use Rattle.td_report.specs.TransitionView as of;
 
-    // What is said of the row with a number, where it is affected.
+    // What a report says of the row with a number, if it is affected.
     fn item_at<'r>(&self, rows: &'r Rows, number: usize) -> Option<Item<'r>>
         requires { of.IsMade self.now }
         ensures { option_map seen result

@@ -9,7 +9,7 @@ use crate::item::Item;
 use std::alloc::{AllocError, Global};
 use td_waves::Level;
 
-/// Affected rows by where their sources stand, each list in the order of the keys.
+/// Affected rows by the levels of their sources, each list in the order of the keys.
 #[derive(Drop)]
 pub struct Grouped<'r> {
     /// Level 1 has number 0.
@@ -17,7 +17,7 @@ pub struct Grouped<'r> {
     pub cyclic: Vec<Item<'r>>,
 }
 
-// So many empty lists.
+// A list of `count` empty lists.
 fn empty_lists<'r>(alloc: Global, count: usize) -> Result<Vec<Vec<Item<'r>>>, AllocError>
     ensures empty { IfOk result (λ lists. (n : ℕ) → list_at lists.items n ≡ []) }
     ensures len { IfOk result (λ lists. length lists.items ≡ count) }
@@ -52,7 +52,7 @@ impl<'r> Grouped<'r> {
     ghost use Rattle.td_report.specs.inner.Grouped.{list_at};
     ghost use Rattle.td_report.specs.inner.ItemLines.{stands_at};
 
-    // Adds a row behind the others of its level.
+    // Adds a row after the others of its level.
     fn push(&mut self, item: Item<'r>) -> Result<(), AllocError>
         ensures levels { OnOk result
             ((n : ℕ) → n < length self.old.levels.items
@@ -73,7 +73,7 @@ impl<'r> Grouped<'r> {
     }
 }
 
-/// The rows by level, of so many levels.
+/// The rows by level, for this many levels.
 pub fn by_level<'r>(
     alloc: Global,
     items: &[Item<'r>],

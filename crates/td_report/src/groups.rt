@@ -1,4 +1,4 @@
-//! Affected rows in groups, by where their sources stand.
+//! Affected rows in groups, by the levels of their sources.
 ghost use Rattle.std.specs.Prelude.{◌≡◌};
 ghost use Rattle.td_report.specs.Groups.{level_group as level_group_of};
 
@@ -33,8 +33,8 @@ impl<'b, 't, 'a, 'q> Transition<'b, 't, 'a, 'q> {
     ghost use Rattle.td_report.specs.Groups.{group_of, grouped, with_group};
     ghost use Rattle.td_report.specs.TransitionView.{IsMade, depth_of};
 
-    /// The group of a key's row, none where it isn't affected: that of level k has number k - 1,
-    /// and that of what is cyclic number `depth`.
+    /// The group of a key's row, none if it isn't affected: level k has number k - 1, and what is
+    /// cyclic has number `depth`.
     pub fn group(&self, key: &Key) -> Option<usize>
         requires { IsMade self.now }
         ensures { result ≡ group_of self.now key.now }
@@ -58,7 +58,7 @@ impl<'b, 't, 'a, 'q> Transition<'b, 't, 'a, 'q> {
         }
     }
 
-    /// The affected rows under their groups, by which a book is to watch them.
+    /// The affected rows under their groups, which a book is to watch.
     pub fn groups(&self, alloc: Global, rows: &Rows) -> Result<Groups, AllocError>
         requires { IsMade self.now }
         ensures count { IfOk result (λ groups. groups.count ≡ depth_of self.now + 1) }

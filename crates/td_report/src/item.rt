@@ -6,7 +6,7 @@ use td_query::Status;
 use td_rows::{Key, Row, State};
 use td_waves::Level;
 
-/// An affected row. `level` is where its source stands among the affected ones.
+/// An affected row. `level` is that of its source among the affected ones.
 #[derive(Clone, Copy)]
 pub struct Item<'r> {
     pub key: &'r Key,

@@ -16,8 +16,8 @@ use td_query::{Marks, Tracker};
 use td_rows::Rows;
 use td_waves::Waves;
 
-// The rows with which the sources open whose flag is set, in a thread, beside the levels of those
-// with these names.
+// The rows with which the sources open whose flag is set, and in another thread the levels of the
+// sources with these names.
 fn rows_and_waves<'a, R: Threads + Sync>(
     rt: &R,
     alloc: Global,
@@ -52,8 +52,8 @@ impl<'b, 't, 'a, 'q> Transition<'b, 't, 'a, 'q> {
     ghost use Rattle.td_report.specs.TransitionView as of;
 
     /// The transition of a text's tracker over an archive, and the rows with which the affected
-    /// sources open. What is told of these is told of all with which a desk opens over the archive,
-    /// since no other is affected.
+    /// sources open. What a report says of these it says of all with which a desk opens over the
+    /// archive, since no other is affected.
     pub fn with_opening_rows(
         rt: &(impl Threads + Sync),
         alloc: Global,

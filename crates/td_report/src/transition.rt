@@ -1,7 +1,8 @@
-//! A tracker over an archive, and what is told of it.
+//! A tracker over an archive, and what is reported of it.
 
 use crate::lines::{Lines, Whole};
 use crate::report_text::report_text;
+use crate::shown::Shown;
 use crate::splitting::Chunks;
 use crate::waves_text::waves_text;
 use std::alloc::{AllocError, Global};
@@ -26,7 +27,7 @@ impl<'b, 't, 'a, 'q> Transition<'b, 't, 'a, 'q> {
     ghost use Rattle.td_query.specs.Statuses.{status_of};
     ghost use Rattle.td_query.specs.Tracking.{IsTracker, tracking};
     ghost use Rattle.td_report.specs.Groups.{AreCounts};
-    ghost use Rattle.td_report.specs.Transition.{IsReport, IsWaves};
+    ghost use Rattle.td_report.specs.Transition.{IsReport, IsReportOf, IsWaves};
     ghost use Rattle.td_report.specs.TransitionView as of;
 
     /// The transition of a text's tracker over an archive. Each query is evaluated once on each
@@ -54,7 +55,7 @@ impl<'b, 't, 'a, 'q> Transition<'b, 't, 'a, 'q> {
         })
     }
 
-    /// The status of a key's row, where the archive has such a row and it is affected. It takes no
+    /// The status of a key's row, if the archive has that row and it is affected. It takes no
     /// memory.
     pub fn status(&self, key: &Key) -> Option<Status>
         requires { of.IsMade self.now }
@@ -65,7 +66,7 @@ impl<'b, 't, 'a, 'q> Transition<'b, 't, 'a, 'q> {
         self.marks.status(self.archive, source, place)
     }
 
-    /// The level of a source; none where it isn't affected.
+    /// The level of a source; none if it isn't affected.
     pub fn level(&self, source: &str) -> Option<Level>
         ensures { result ≡ of.level_of self.now source.now }
     {
@@ -79,7 +80,7 @@ impl<'b, 't, 'a, 'q> Transition<'b, 't, 'a, 'q> {
         self.waves.depth()
     }
 
-    // The report of the rows, whose lines are made so, by counts of Installed rows where these are
+    // The report of the rows, whose lines `lines` makes, by counts of Installed rows if these are
     // given.
     fn text<L: Lines>(
         &self,
@@ -91,7 +92,7 @@ impl<'b, 't, 'a, 'q> Transition<'b, 't, 'a, 'q> {
         requires made { of.IsMade self.now }
         requires counts { IfSome counts (λ cs. AreCounts self.now rows.now cs.now) }
         requires ready { L.ready lines.now }
-        ensures { IfOk result (λ text. IsReport (of.contents_of self.now)
+        ensures { IfOk result (λ text. IsReportOf (L.shown lines.now) (of.contents_of self.now)
             (of.tracking_of self.now) rows.now (string_bytes text)) }
     {
         let items = self.items(alloc, rows)?;
@@ -105,28 +106,44 @@ impl<'b, 't, 'a, 'q> Transition<'b, 't, 'a, 'q> {
         ensures { IfOk result (λ text. IsReport (of.contents_of self.now)
             (of.tracking_of self.now) rows.now (string_bytes text)) }
     {
-        self.text(alloc, rows, None, &Whole)
+        self.report_showing(alloc, rows, Shown::all())
     }
 
-    /// The report of the rows, made of those of each level in chunks of so many, which several
-    /// threads share.
+    /// The report of the rows that shows those of some statuses.
+    pub fn report_showing(
+        &self,
+        alloc: Global,
+        rows: &Rows,
+        shown: Shown,
+    ) -> Result<String, AllocError>
+        requires { of.IsMade self.now }
+        ensures { IfOk result (λ text. IsReportOf shown (of.contents_of self.now)
+            (of.tracking_of self.now) rows.now (string_bytes text)) }
+    {
+        self.text(alloc, rows, None, &Whole { shown })
+    }
+
+    /// The report that shows the rows of some statuses, made of those of each level in chunks of
+    /// `chunk` rows, which several threads share.
     pub fn report_split(
         &self,
         rt: &(impl Threads + Sync),
         alloc: Global,
         rows: &Rows,
+        shown: Shown,
         chunk: usize,
     ) -> Result<String, AllocError>
         requires made { of.IsMade self.now }
         requires chunk { 1 ≤ chunk }
-        ensures { IfOk result (λ text. IsReport (of.contents_of self.now)
+        ensures { IfOk result (λ text. IsReportOf shown (of.contents_of self.now)
             (of.tracking_of self.now) rows.now (string_bytes text)) }
     {
-        self.text(alloc, rows, None, &Chunks { rt, size: chunk })
+        let size = chunk;
+        self.text(alloc, rows, None, &Chunks { rt, shown, size })
     }
 
-    /// The report of the rows, where it is given how many rows of each group are Installed. They
-    /// aren't counted anew.
+    /// The report of the rows, if the number of Installed rows of each group is given. They aren't
+    /// counted anew.
     pub fn report_counted(
         &self,
         alloc: Global,
@@ -138,10 +155,11 @@ impl<'b, 't, 'a, 'q> Transition<'b, 't, 'a, 'q> {
         ensures { IfOk result (λ text. IsReport (of.contents_of self.now)
             (of.tracking_of self.now) rows.now (string_bytes text)) }
     {
-        self.text(alloc, rows, Some(counts), &Whole)
+        let shown = Shown::all();
+        self.text(alloc, rows, Some(counts), &Whole { shown })
     }
 
-    /// The report of the rows by such counts, made in chunks as `report_split` makes it.
+    /// The report of the rows by given counts, made in chunks as `report_split` makes it.
     pub fn report_kept(
         &self,
         rt: &(impl Threads + Sync),
@@ -156,7 +174,9 @@ impl<'b, 't, 'a, 'q> Transition<'b, 't, 'a, 'q> {
         ensures { IfOk result (λ text. IsReport (of.contents_of self.now)
             (of.tracking_of self.now) rows.now (string_bytes text)) }
     {
-        self.text(alloc, rows, Some(kept), &Chunks { rt, size: chunk })
+        let shown = Shown::all();
+        let size = chunk;
+        self.text(alloc, rows, Some(kept), &Chunks { rt, shown, size })
     }
 
     /// The affected sources of the rows, by level.

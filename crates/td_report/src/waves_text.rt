@@ -22,7 +22,7 @@ fn is_last(last: Option<&str>, text: &str) -> bool
     }
 }
 
-// Appends the sources of rows that stand in the order of their keys, each once.
+// Appends the sources of rows that are in the order of their keys, each once.
 fn put_sources(out: &mut String, items: &[Item<'_>]) -> Result<(), AllocError>
     ensures { OnOk result (string_bytes out.new
         ≡ string_bytes out.old ++ text_of (each_once None (map source_of items.now))) }
@@ -61,7 +61,7 @@ fn put_waves(out: &mut String, blocks: &[Block<'_, '_>]) -> Result<(), AllocErro
     Ok(())
 }
 
-/// The sources of these affected rows by level, of so many levels.
+/// The sources of these affected rows by level, for this many levels.
 pub fn waves_text(alloc: Global, depth: usize, items: &[Item<'_>]) -> Result<String, AllocError>
     ensures { IfOk result
         (λ text. string_bytes text ≡ text_of (waves_lines depth (map seen items.now))) }

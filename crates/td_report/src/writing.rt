@@ -1,4 +1,4 @@
-//! The lines of a report but for those of its rows.
+//! The lines of a report except those of its rows.
 ghost use Rattle.std.specs.Prelude.{◌≡◌, ◌++◌, ◌∷◌, [], OnOk, codes, decimal, map, string_bytes};
 ghost use Rattle.td_report.specs.inner.ItemLines.{seen};
 ghost use Rattle.td_report.specs.Report.{head_line, last_line, level_words, title_line};
@@ -38,7 +38,7 @@ pub fn put_level(out: &mut String, level: Level) -> Result<(), AllocError>
     }
 }
 
-// Appends words and a number behind them.
+// Appends words and a number after them.
 fn put_counted(out: &mut String, words: &str, count: usize) -> Result<(), AllocError>
     ensures { OnOk result
         (string_bytes out.new ≡ string_bytes out.old ++ (words.now ++ decimal count)) }

@@ -6,9 +6,9 @@ use Rattle.std.proofs.Common.{true, false, inl, inr, refl, sym, ap, subst, ◌�
 use Rattle.std.specs.declared.alloc.Global.{Global}
 use Rattle.std.specs.Io.KnownBytes.{Keeps}
 use Rattle.td_bytes.specs.declared.text.TextFault.{TextFault}
-use Rattle.td_report.specs.Transition.{IsReport, IsWaves}
-use Rattle.td_words.specs.Asked.{Asks, IsUsage, RequestWords, builders_said, check_of, chunk_said}
-use Rattle.td_words.specs.Asked.{report_of, request_words, run_of, simulation, waves_of}
+use Rattle.td_report.specs.Transition.{IsReportOf, IsWaves}
+use Rattle.td_words.specs.Asked.{Asks, IsUsage, RequestWords, builders_said, check_of}
+use Rattle.td_words.specs.Asked.{report_of, request_words, run_of, simulation, track_said, waves_of}
 use Rattle.td_words.specs.CommandLine.{AskFor, HasFiles, HasTracker, RunWords, TrackWords}
 use Rattle.td_words.specs.CommandLine.{is_explained, options_of}
 use Rattle.td_words.specs.declared.request.Call.{Call}
@@ -60,8 +60,8 @@ module _ (words : List (List ℕ)) (known left : Option (List ℕ))
   abbrev HasFlag : Bool → Result Call WordsFault → Type 0
   HasFlag explained r = IfOk r (λ c. c.explained ≡ explained)
 
-  -- what was asked for has run, and is explained where that was asked; or memory was wanting for
-  -- the words
+  -- what was asked for has run, and is explained if that was asked for; or memory ran out for the
+  -- words
   answered : (Did : Ending → Type 0) (texts : Role → Option (List ℕ)) (Is : Request → Type 0)
       (r : Result Call WordsFault) (explained : Bool)
       → ((q : Request) (b : Bool)
@@ -89,7 +89,8 @@ module _ (words : List (List ℕ)) (known left : Option (List ℕ))
       Ran (DueTo reads writes (Checks (files_of bytes can_fail archs packages sources) old new)) b
       (known_at bytes (archive_paths archs packages sources)) before said status
   RanWords (report_of w) b =
-      Ran (DueTo reads writes (EndsSo IsReport (files_asked bytes can_fail w) old new)) b
+      Ran (DueTo reads writes
+      (EndsSo (IsReportOf w.shown) (files_asked bytes can_fail w) old new)) b
       (known_at bytes (track_paths w)) before said status
   RanWords (waves_of archs packages sources tracker) b =
       Ran (DueTo reads writes
@@ -144,10 +145,12 @@ module _ (words : List (List ℕ)) (known left : Option (List ℕ))
   pub tracked : (r : Result Call WordsFault) (explained : Bool) (w : TrackWords) → HasRun r
       → WasTold r → HasFlag explained r
       → MatchResult r (λ c. request_words c.request ≡ report_of w) (λ e. e ≡ words_fault.NoMemory)
-      → Ran (DueTo reads writes (EndsSo IsReport (files_asked bytes can_fail w) old new))
+      → Ran (DueTo reads writes
+      (EndsSo (IsReportOf w.shown) (files_asked bytes can_fail w) old new))
       explained (known_at bytes (track_paths w)) before said status
   tracked r explained w =
-      answered (DueTo reads writes (EndsSo IsReport (files_asked bytes can_fail w) old new))
+      answered (DueTo reads writes
+      (EndsSo (IsReportOf w.shown) (files_asked bytes can_fail w) old new))
       (known_at bytes (track_paths w)) (λ q. request_words q ≡ report_of w) r explained
       (ran_same (report_of w))
       (λ kept. (record { says = inl (refl, kept); only = λ x are readable. kept }, tt))
@@ -195,7 +198,7 @@ module _ (words : List (List ℕ)) (known left : Option (List ℕ))
       → IfOk r (λ c. Asks words (request_words c.request))
       → ((archs packages sources tracker : List ℕ) → AskFor (codes "track") words
       → HasTracker (options_of words) archs packages sources tracker
-      → IfErr r (λ e. IsUsage e chunk_said))
+      → IfErr r (λ e. IsUsage e (track_said (options_of words))))
       → ((archs packages sources : List ℕ) → AskFor (codes "run") words
       → HasFiles (options_of words) archs packages sources
       → IfErr r (λ e. IsUsage e builders_said))

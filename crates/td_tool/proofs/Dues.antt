@@ -1,4 +1,4 @@
--- A run ends for a stream only where that may fail.
+-- A run ends for a stream only if that may fail.
 use Rattle.std.proofs.Common.{◌≡◌, ◌≢◌, ℕ, ◌==◌, List, Option, Bool, true, false, Result, Ok, Err}
 use Rattle.std.proofs.Common.{IfOk, IfErr, String, ap, if◌then◌else◌, inl, inr, refl, subst, sym}
 use Rattle.std.proofs.Common.{◌∙◌}
@@ -35,7 +35,7 @@ use Rattle.td_tool.specs.Tracks as track
 use Rattle.td_tool.specs.Tracks.{AreRefused, EndsSo, Saying, SaysSo, Texts, TrackFiles}
 use Rattle.td_tool.proofs.FormEndings.{form_ends}
 
--- ---- 1. a script, alone and beside builders
+-- ---- 1. a script, without builders and with them
 
 answered : (input output none_refused : Bool)
     → IsDue input output (if none_refused then Done else Refused)
@@ -133,7 +133,7 @@ check_due input output bytes can_fail a p s old new (CannotRead role) (inr faile
     unread_due input output role (no_input bytes can_fail a p s role text.TooLong failed)
 check_due input output bytes can_fail a p s old new CannotWrite says write = write refl
 
--- where there is no line to be written, no write has failed
+-- if there is no line to be written, no write has failed
 pub line_unwritten : (a p s : List ℕ) (counted : Result Counts Ending)
     (line : Result (String Global) Ending) → IsCounted a p s counted
     → IfOk counted (λ n. MatchResult line (IsLineFor n) (λ e. e ≡ NoMemory))
@@ -201,7 +201,7 @@ simulation_due input output (simulation.Opening s) = tt
 simulation_due input output (simulation.BadStep n) = tt
 simulation_due input output simulation.NoMemory = tt
 
--- what is due where nothing is read is due
+-- an ending that is due for an input that can't fail is due for any input
 wider : (input output : Bool) (ending : Ending) → IsDue false output ending
     → IsDue input output ending
 wider input output Done due = tt
@@ -234,7 +234,7 @@ play_due input output (Err f) old new ending failed due unread =
     subst (IsDue input output) (sym unread.ends)
     (text_due input output f (λ same. failed (ap (λ (g : TextFault). Err g) same)))
 
--- ---- 6. no read has failed where a text is kept
+-- ---- 6. no read has failed if a text is kept
 
 pub kept_steady : (P : Type 0) (read : Result (String Global) TextFault)
     (input : Option (String Global)) → input ≡ kept_of read → OnOk read P → OnSome input P

@@ -1,4 +1,4 @@
--- The line that explains an ending, and what is said of it.
+-- The line that explains an ending, and how much of it is written.
 use Rattle.std.proofs.Common.{◌≡◌, ◌⊎◌, ◌≤◌, ℕ, Bool, true, false, List, [], length, Option}
 use Rattle.std.proofs.Common.{Some, None, IfSome, Result, Ok, Err, IfOk, IfErr, MatchResult, OnOk}
 use Rattle.std.proofs.Common.{OnErr, String, string_bytes, append-nil, inl, inr, refl, sym, subst}
@@ -56,7 +56,7 @@ some_cause : (can_be : Causes) (path : Option (List ℕ)) (r : Role) (line : Lis
 some_cause can_be None r line told = absurd told
 some_cause can_be (Some p) r line told = (Some told.0, told.2)
 
--- a line that tells such a cause explains that the file isn't read
+-- a line that tells a cause that the file may have explains that it isn't read
 pub own_cause_explains : (can_be : Causes) (known : Role → Option (List ℕ)) (request : Request)
     (r : Role) (made : Result (Option (String Global)) Unexplained)
     → IfOk made (λ told. IfSome told (λ line. IsSomeAnd (paths_of request r)
@@ -67,7 +67,7 @@ own_cause_explains can_be known request r (Ok (Some line)) told =
 own_cause_explains can_be known request r (Ok None) told = tt
 own_cause_explains can_be known request r (Err e) told = tt
 
--- where only the line of the ending is said, or a front of it
+-- the line of the ending, or a front of it, is enough for `SaysOf`
 pub line_alone : (explained : Bool) (known : Role → Option (List ℕ)) (ending : Ending)
     (before said : Option (List ℕ)) → AppendsPrefix before said (line_of ending)
     → SaysOf explained known ending before said
@@ -76,7 +76,7 @@ line_alone true known ending before said line =
     let some = some_line ending known in
     (some.0, some.1, AppendsPrefix-first before said (line_of ending) some.0 line)
 
--- what is said is a front of itself
+-- bytes that are written whole are written as a front of themselves
 whole_front : (before said : Option (List ℕ)) (bytes : List ℕ) → Appends before said bytes
     → AppendsPrefix before said bytes
 whole_front before said bytes whole = (bytes, [], sym (append-nil bytes), whole)
@@ -88,25 +88,25 @@ pub front_said : {T E : Type 0} (before said : Option (List ℕ)) (bytes : List 
 front_said before said bytes (Ok u) whole front = whole_front before said bytes whole
 front_said before said bytes (Err e) whole front = front
 
--- a front of the explanation is said
+-- a front of the explanation is written
 abbrev pub IsSaidOf : (Role → Option (List ℕ)) → Ending → Option (List ℕ) → Option (List ℕ) → Type 0
 IsSaidOf known ending said_before said =
     (line : List ℕ) × Explains known ending line × AppendsPrefix said_before said line
 
--- where there is no line nothing is said
+-- writing nothing is writing a front of the explanation
 nothing_said : (known : Role → Option (List ℕ)) (ending : Ending) (before said : Option (List ℕ))
     → Appends before said [] → IsSaidOf known ending before said
 nothing_said known ending before said none =
     let some = some_line ending known in
     (some.0, some.1, ([], some.0, refl, none))
 
--- where there is one a front of it is
+-- a front of a line that explains the ending is a front of the explanation
 line_said : (known : Role → Option (List ℕ)) (ending : Ending) (line : List ℕ)
     (before said : Option (List ℕ)) → Explains known ending line
     → AppendsPrefix before said line → IsSaidOf known ending before said
 line_said known ending line before said explains front = (line, explains, front)
 
--- behind the line of the ending
+-- the line of the ending, and after it a front of the explanation, are enough for `SaysOf`
 both_said : (known : Role → Option (List ℕ)) (ending : Ending)
     (before between said : Option (List ℕ)) → Appends before between (line_of ending)
     → IsSaidOf known ending between said → SaysOf true known ending before said
@@ -116,7 +116,7 @@ both_said known ending before between said line is = (
   AppendsPrefix-second before between said (line_of ending) is.0 line is.2,
 )
 
--- what is kept is kept with nothing behind it
+-- what is kept is kept with nothing after it
 kept_as_nothing : (before said : Option (List ℕ)) → Keeps before said → Appends before said []
 kept_as_nothing None said same = tt
 kept_as_nothing (Some xs) None same = absurd same
@@ -129,12 +129,12 @@ Put between said r q =
     IfOk r (λ told. MatchResult q (λ u. Appends between said (line_if told))
     (λ e. (e ≡ unexplained.CannotWrite) × AppendsPrefix between said (line_if told)))
 
--- nothing is, where there is none for a fault
+-- nothing is written if there is no explanation for a fault, and that fault is answered
 abbrev Left : Option (List ℕ) → Option (List ℕ) → Result (Option (String Global)) Unexplained
     → Result (Unit {0}) Unexplained → Type 0
 Left between said r q = IfErr r (λ e. (q ≡ Err e) × Keeps between said)
 
--- it isn't all said for this
+-- not all is written because a write failed, or because the explanation did for this
 pub said_not : (Fails : Unexplained → Type 0) (between said : Option (List ℕ))
     (r : Result (Option (String Global)) Unexplained) (q : Result (Unit {0}) Unexplained)
     → IfErr r Fails → Put between said r q → Left between said r q
@@ -144,7 +144,7 @@ said_not Fails between said (Ok told) (Err e) fails put left = inl put.0
 said_not Fails between said (Err e) q fails put left =
     subst (λ x. IfErr x (λ f. (f ≡ unexplained.CannotWrite) ⊎ Fails f)) (sym left.0) (inr fails)
 
--- behind the line of the ending
+-- an explanation, after the line of the ending
 module _ (known : Role → Option (List ℕ)) (ended : Ended) (request : Request)
     (can_be : Causes) (before between said : Option (List ℕ)) where
   abbrev Explained : Result (Option (String Global)) Unexplained → Type 0
@@ -155,7 +155,7 @@ module _ (known : Role → Option (List ℕ)) (ended : Ended) (request : Request
   Caused r = IfOk r (λ told. IfSome told (λ line.
       TellsOwnCause can_be request ended.ending (string_bytes line)))
 
-  -- all of it is
+  -- an explanation that is written without a fault is written whole
   pub said_whole : (r : Result (Option (String Global)) Unexplained)
       (q : Result (Unit {0}) Unexplained) → Appends before between (line_of ended.ending)
       → Explained r → Caused r → IfOk r (λ told. told ≡ None
@@ -180,7 +180,7 @@ module _ (known : Role → Option (List ℕ)) (ended : Ended) (request : Request
       (let other : Ok u ≡ Err e = left.0 in absurd cc)
   said_whole (Err e) (Err f) first explained caused none put left = tt
 
-  -- a front of it is
+  -- a front of the explanation is written in any case
   pub said_front : (r : Result (Option (String Global)) Unexplained)
       (q : Result (Unit {0}) Unexplained) → Appends before between (line_of ended.ending)
       → Explained r → Put between said r q → Left between said r q

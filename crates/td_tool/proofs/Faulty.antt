@@ -1,7 +1,7 @@
 -- Facts at an error.
 use Rattle.std.specs.Prelude.{Result, Ok, Err, OnErr}
 
--- what holds in any case holds there
+-- what holds in any case holds at an error
 pub on_err : {T E P : Type 0} (r : Result T E) → P → OnErr r P
 on_err (Ok x) p = tt
 on_err (Err e) p = p

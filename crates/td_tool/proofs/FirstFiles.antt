@@ -1,4 +1,4 @@
--- A file of an archive that wasn't read, behind those that were.
+-- A file of an archive that wasn't read, after those that were.
 use Rattle.std.proofs.Common.{ℕ, Bool, List, Option, sym, subst}
 use Rattle.td_bytes.specs.declared.text.TextFault.{TextFault}
 use Rattle.td_tool.specs.declared.file_texts.FileFault.{FileFault}

@@ -12,7 +12,7 @@ use Rattle.td_tool.specs.declared.ending.Ending.TheVariants.{BadInput, NoMemory}
 use Rattle.td_tool.specs.declared.input_fault.InputFault.TheVariants.{Form}
 use Rattle.td_tool.specs.Ending.{ending_of_form}
 
--- what is so of these endings
+-- what holds for missing memory and for each bad input holds of the ending of a form's fault
 pub form_ends : (Holds : Ending → Type 0) → Holds NoMemory
     → ((role : Role) (e : FormFault) → Holds (BadInput role (Form e))) → (e : FormFault)
     → Holds (ending_of_form e)

@@ -30,7 +30,7 @@ use Rattle.td_tool.specs.Played.{TellsSo, IsUntold, PlaysText, IsNoSimulation, T
 use Rattle.td_tool.specs.Played.{IsUnread, kept_of}
 use Rattle.td_tool.proofs.Stops.{ends_unread}
 
--- ---- what is told of a text
+-- ---- how a text ends
 
 tells_as : (rows : Table) (steps : List Step) (told : Simulated) (old new : Option (List ℕ))
     (ending : Ending) → Tells rows steps told → TellsSo told old new ending
@@ -183,7 +183,7 @@ kept_within limit (Ok text) input is within =
 kept_within limit (Err fault) input is within =
     subst (λ o. IfSome o (λ kept. length (string_bytes kept) ≤ limit)) (sym is) tt
 
--- where a text is refused as a simulation, it was read
+-- if a text is refused as a simulation, it was read
 some_kept : (ending : Ending) (text : String Global) → IsTextKept ending (Some text)
 some_kept Done text = tt
 some_kept Refused text = tt

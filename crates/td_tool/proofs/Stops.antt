@@ -1,4 +1,4 @@
--- Runs of which no text was read end as they say.
+-- Runs for which no text was read end as they say.
 use Rattle.std.proofs.Common.{ℕ, ◌≤◌, ◌<◌, List, length, Option, Some, None, IfSome, Err}
 use Rattle.std.proofs.Common.{IsErrOf, IsUtf8, refl, subst, sym, arith}
 use Rattle.std.specs.Io.KnownBytes.{Keeps}
@@ -31,7 +31,7 @@ not_text : (known : Option (List ℕ))
 not_text None other rows steps = tt
 not_text (Some all) other rows steps = λ read simulation. other.1 read.1
 
--- where nothing is written
+-- if nothing is written, nothing is written for a simulation
 pub kept_only : (known old new : Option (List ℕ)) → Keeps old new
     → (rows : Table) (steps : List Step)
     → IfSome known (λ input. IsText input → IsSimulation input rows steps → Keeps old new)

@@ -1,4 +1,4 @@
--- A run of `track` or `waves` ends as it says, and readable texts are told.
+-- A run of `track` or `waves` ends as it says, and what readable texts say is written.
 use Rattle.std.proofs.Common.{◌≡◌, ℕ, List, length, Option, Some, None, IfSome}
 use Rattle.std.proofs.Common.{Result, Ok, Err, IfOk, IfErr, String}
 use Rattle.std.proofs.Common.{string_bytes, inl, inr, refl, sym, ap, subst, ◌∙◌}
@@ -105,7 +105,7 @@ ends_unread Says files f old new ending failed is kept = record {
       (unread_told Says files x old new f.role f.fault failed kept known);
 }
 
--- a text was told
+-- a run that has a text to write ends as readable texts do
 told_whole : (Says : Saying) (x : Texts) (text : List ℕ) (old new : Option (List ℕ))
     (ending : Ending) → TextsSayIt Says x text → WritesSo text old new ending
     → EndsTold Says x old new ending
@@ -116,7 +116,7 @@ told_whole Says x text old new NoMemory says writes = absurd writes
 told_whole Says x text old new (CannotRead role) says writes = absurd writes
 told_whole Says x text old new CannotWrite says writes = (text, says, writes)
 
--- none was, for a pattern or for memory
+-- a run without a text ends as readable texts do, if a pattern or memory is the reason
 told_none : (Says : Saying) (x : Texts) (e : TrackerFault) (old new : Option (List ℕ))
     → IsPatternFault (length x.tracker) (log_in (said_in x.tracker)) e → Keeps old new
     → EndsTold Says x old new (ending_of_form (form.Tracker e))

@@ -149,7 +149,7 @@ plays_crew n x suite inputs known old new r ending some are says only is =
           (outcomes_of inputs) known r ending are.texts are.outcomes only is);
     }
 
--- whoever answers
+-- an ending that may be is one that readable texts have, whoever answers the script
 pub play_only : (n : ℕ) (x : Texts) (suite : List ℕ) (known : Option (List ℕ)) (ending : Ending)
     → MayEnd x.tracker ending → OnlyPlayEnds n x suite known ending
 play_only n x suite known ending may =
@@ -216,7 +216,7 @@ unread_ends files x role text_fault.NotText failed known =
     absurd (no_such_text files role x failed known)
 unread_ends files x role text_fault.NoMemory failed known = tt
 
--- where a file isn't read, or memory is wanting for the inputs, nothing is written
+-- if a file isn't read, or memory runs out for the inputs, nothing is written
 pub run_without_inputs : (files : RunFiles) (suite : List ℕ) (known left old new : Option (List ℕ))
     (ending : Ending) → HasNoInputs files ending → Keeps known left → Keeps old new
     → EndsRun files suite known left old new ending

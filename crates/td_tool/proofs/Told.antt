@@ -11,7 +11,7 @@ use Rattle.td_indices.specs.Archive.{Contents}
 use Rattle.td_query.specs.Tracking.{IsTracker, Tracking, tracking}
 use Rattle.td_query.specs.declared.tracker_fault.TrackerFault.TheVariants as tracker_fault
 use Rattle.td_report.specs.OpeningRows.{StandForAll}
-use Rattle.td_report.specs.Report.{report_lines, waves_lines}
+use Rattle.td_report.specs.Report.{lines_showing, waves_lines}
 use Rattle.td_report.specs.TransitionView.{contents_of, tracking_of}
 use Rattle.td_report.specs.declared.transition.Transition.{Transition}
 use Rattle.td_inputs.specs.declared.role.Role.{Role}
@@ -54,17 +54,17 @@ index_fails files Fails Journal e archs packages sources failed = absurd failed.
 
 -- ---- texts
 
--- what is told of the same archive and tracker
+-- what a text says of an archive and a tracker it says of equal ones
 pub told_of : (Says : Saying) (c d : Contents) (t u : Tracking) (rows : Table) (text : List ℕ)
     → c ≡ d → t ≡ u → Says c t rows text → Says d u rows text
 told_of Says c d t u rows text first second says =
     subst (λ x. Says d x rows text) second (subst (λ x. Says x t rows text) first says)
 
--- what is told of rows that stand for all opening rows is told of all of them
+-- what a text says of rows that stand for all opening rows it says of all of them
 all_are_said : (asked : Asked) (x : Transition) (rows : Table) (text : List ℕ)
     → StandForAll x rows → saying_of asked (contents_of x) (tracking_of x) rows text
     → GivenSays (saying_of asked) (contents_of x) None (tracking_of x) text
-all_are_said (Report chunk) x rows text stand says = (
+all_are_said (Report shown chunk) x rows text stand says = (
   stand.all,
   record { same = stand.opened; rising = stand.rising },
   record {
@@ -72,7 +72,7 @@ all_are_said (Report chunk) x rows text stand says = (
     depth = says.depth;
     levels = says.levels;
     written = says.written
-        ∙ ap (λ rs. text_of (report_lines (tracking_of x).title says.depth rs))
+        ∙ ap (λ rs. text_of (lines_showing shown (tracking_of x).title says.depth rs))
         (stand.same says.level);
   },
 )
@@ -101,8 +101,8 @@ opening_is_said asked x c t rows (Err e) first second stand says = tt
 
 -- ---- what was opened
 
--- what is said over the rows of a state file, or over all with which a desk opens, is over those of
--- the texts
+-- what a text says over the rows of a state file, or over all with which a desk opens, it says
+-- over the rows of the texts
 rows_found : (Says : Saying) (c : Contents) (state : Option (List ℕ)) (rows : Option Table)
     (t : Tracking) (tracker text : List ℕ) → AreGivenRows c state rows → IsTracker tracker t
     → GivenSays Says c rows t text → RowsSay Says c state tracker text
@@ -131,7 +131,7 @@ tracker_lent given (Some g) is = tracker_of_text given g.now is
 lacks_memory : (text : List ℕ) → IsPatternRefused text NoMemory
 lacks_memory text = (tracker_fault.NoMemory, tt, refl)
 
--- what is made of what was opened is said, unless memory runs out
+-- the text that is made of what was opened is what the texts say, unless memory runs out
 pub said_of_opened : {E : Type 0} (Says : Saying) (x : Texts) (y : inputs.Texts)
     (made : Result (String Global) E) (said : Result (String Global) Ending) (o : Opened)
     → y ≡ as_script x → IsOpened y o
@@ -158,7 +158,7 @@ said_of_opened Says x y (Err e) said o same is says ok err =
       only = λ readable. lacks_memory x.tracker;
     })
 
--- ---- what wasn't
+-- ---- what wasn't opened
 
 refused_so : (x : Texts) (e : OpenFault) → IsUnopened (as_script x) e
     → OrMemory (AreRefused x) (ending_of_opening e)

@@ -1,4 +1,4 @@
--- A file of a run that wasn't read, behind those that were.
+-- A file of a run that wasn't read, after those that were.
 use Rattle.std.proofs.Common.{◌≡◌, ℕ, List, Option, None, Result, Ok, Err, IfErr, IsErrAnd, sym}
 use Rattle.std.proofs.Common.{subst}
 use Rattle.td_tool.specs.declared.file_texts.FileFault.{FileFault}
@@ -25,7 +25,7 @@ pub passed_on : {T : Type 0} (Holds : FileFault → Type 0) (f : FileFault) (r :
 passed_on Holds f (Ok x) is holds = tt
 passed_on Holds f (Err e) is holds = subst Holds (sym is) holds
 
--- ---- behind the indices
+-- ---- after the indices
 
 -- the texts that were read so far
 abbrev so_far : List ℕ → List ℕ → List ℕ → Option (List ℕ) → Option (List ℕ)
@@ -40,7 +40,7 @@ so_far a p s state tracker outcomes = record {
   journal = None;
 }
 
--- the file of a role wasn't read, behind texts that were
+-- the file of a role wasn't read, after texts that were
 fails_behind : (files : RunFiles) (f : FileFault) (role : Role) (file : Option OneFile)
     (Before : Type 0) → (Before × FailsIfGiven file f.fault → FailsAt files role f.fault) → Before
     → HasFailedIfGiven file role f → HasRunFailed files f

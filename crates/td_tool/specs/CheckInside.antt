@@ -66,7 +66,7 @@ pub record AreCountsOf (c : Contents) (n : Counts) : Type 0 where
   pub of_binaries : n.binaries ≡ length c.binaries
   pub of_rows : n.rows ≡ row_count c.table c.sources
 
--- the ending where three texts are no archive, or memory runs out
+-- the ending if three texts are no archive, or memory runs out
 abbrev pub IsNoArchive : List ℕ → List ℕ → List ℕ → Ending → Type 0
 IsNoArchive a p s Done = ⊥
 IsNoArchive a p s Refused = ⊥
@@ -90,7 +90,7 @@ IsNoArchive a p s NoMemory = Unit {0}
 IsNoArchive a p s (CannotRead role) = ⊥
 IsNoArchive a p s CannotWrite = ⊥
 
--- what is counted of three texts: an archive is, unless memory runs out
+-- what is counted of three texts: an archive is counted, unless memory runs out
 pub record IsCounted (a p s : List ℕ) (counted : Result Counts Ending) : Type 0 where
   pub found : IfOk counted (λ n. (c : Contents) × IsArchiveOf a p s c × AreCountsOf c n)
   pub only : (c : Contents) → IsArchiveOf a p s c
@@ -103,7 +103,7 @@ IsLineFor n line = string_bytes line ≡ line_of_counts n.sources n.binaries n.r
 
 -- ---- 3. what is written
 
--- this line is written so: whole, or a front of it where the writer failed
+-- this line is written so: whole, or a front of it if the writer failed
 abbrev pub WritesSo : List ℕ → Option (List ℕ) → Option (List ℕ) → Ending → Type 0
 WritesSo line old new Done = Appends old new line
 WritesSo line old new Refused = ⊥
@@ -112,7 +112,7 @@ WritesSo line old new NoMemory = ⊥
 WritesSo line old new (CannotRead role) = ⊥
 WritesSo line old new CannotWrite = AppendsPrefix old new line
 
--- it ends so, and nothing is written
+-- a run ends so, and nothing is written
 pub record EndsUnwritten (expected : Ending) (old new : Option (List ℕ))
     (ending : Ending) : Type 0 where
   pub ends : ending ≡ expected

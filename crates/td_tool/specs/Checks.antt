@@ -32,7 +32,7 @@ use Rattle.td_tool.specs.Counted.{IsArchiveOf, counts_line}
 
 -- ---- 1. what is read
 
--- the bytes of the three files, where they are known, and for which faults a read of each may fail
+-- the bytes of the three files, if they are known, and for which faults a read of each may fail
 pub record Files : Type 0 where
   pub in_archs : Option (List ℕ)
   pub in_packages : Option (List ℕ)
@@ -51,7 +51,7 @@ failing can_fail archs packages sources Tracker fault = false
 failing can_fail archs packages sources Outcomes fault = false
 failing can_fail archs packages sources Journal fault = false
 
--- those of three paths
+-- the files of three paths
 abbrev pub files_of : (List ℕ → Option (List ℕ)) → (List ℕ → TextFault → Bool) → List ℕ → List ℕ
     → List ℕ → Files
 files_of bytes can_fail archs packages sources =
@@ -62,14 +62,14 @@ files_of bytes can_fail archs packages sources =
       can_fail = failing can_fail archs packages sources;
     }
 
--- those that the words name
+-- the files that the words name
 abbrev pub archive_files_at : (List ℕ → Option (List ℕ)) → (List ℕ → TextFault → Bool)
     → ArchivePaths → Files
 archive_files_at bytes can_fail p =
     files_of bytes can_fail (string_bytes p.archs) (string_bytes p.packages)
     (string_bytes p.sources)
 
--- the bytes of the file of a role, where they are known
+-- the bytes of the file of a role, if they are known
 abbrev pub known_of : Files → Role → Option (List ℕ)
 known_of files Input = None
 known_of files Archs = files.in_archs
@@ -84,7 +84,7 @@ known_of files Journal = None
 abbrev pub IsFileText : List ℕ → Type 0
 IsFileText text = (length text ≤ file_limit) × IsUtf8 text
 
--- the text that such a file has
+-- a file with these bytes, if they are known, has this text
 pub record IsTextOf (known : Option (List ℕ)) (text : List ℕ) : Type 0 where
   pub whole : IfSome known (λ all. all ≡ text)
   pub read : IsFileText text
@@ -144,7 +144,7 @@ abbrev pub IsUnreadable : Files → Role → Type 0
 IsUnreadable files role =
     HasFailed files role text_fault.CannotRead ⊎ HasFailed files role text_fault.TooLong
 
--- all are texts, and the first is no table, for this
+-- all three files are texts, and the first is no table, for this
 pub record HasTableFault (files : Files) (e : ArchsFault) : Type 0 where
   pub archs : List ℕ
   pub packages : List ℕ
@@ -152,7 +152,7 @@ pub record HasTableFault (files : Files) (e : ArchsFault) : Type 0 where
   pub texts : AreTexts files archs packages sources
   pub fault : table_file.FaultOf (lines_of archs) e
 
--- all are texts, the first is a table, and with it the others are no archive, for this
+-- all three files are texts, the first is a table, and with it the others are no archive, for this
 pub record HasArchiveFault (files : Files) (e : ArchiveFault) : Type 0 where
   pub archs : List ℕ
   pub packages : List ℕ
@@ -181,7 +181,7 @@ HasFileFault files role (Form (form.Archive e)) =
 -- ---- 3. how it ends
 
 -- what an ending says of the files and of what is written: the line of the archive, or a front of
--- it where the writer failed, or nothing where a file, a read or memory did
+-- it if the writer failed, or nothing if a file, a read or memory did
 abbrev pub CheckSays : Files → Option (List ℕ) → Option (List ℕ) → Ending → Type 0
 CheckSays files old new Done =
     (c : Contents) × IsArchiveIn files c × Appends old new (counts_line c)

@@ -5,7 +5,7 @@ use Rattle.td_relation.specs.TableFile.{IsTable}
 use Rattle.td_indices.specs.Archive.{Contents, IsArchive}
 use Rattle.td_indices.specs.Rows.{row_count}
 
--- the line of so many sources, binary packages and rows
+-- the line of these numbers of sources, binary packages and rows
 abbrev pub line_of_counts : ℕ → ℕ → ℕ → List ℕ
 line_of_counts sources binaries rows =
     codes "sources " ++ (decimal sources

@@ -27,28 +27,28 @@ use Rattle.td_tool.specs.declared.ending.Ending.{Ending}
 use Rattle.td_tool.specs.declared.ending.Ending.TheVariants.{Done, Refused, BadInput, NoMemory}
 use Rattle.td_tool.specs.declared.ending.Ending.TheVariants.{CannotRead, CannotWrite}
 
--- ---- 1. where a text is refused
+-- ---- 1. a text is refused
 
--- how a run ends where no text is read from standard input
+-- how a run ends if no text is read from standard input
 abbrev pub ending_of_text : TextFault → Ending
 ending_of_text text.CannotRead = CannotRead role.Input
 ending_of_text text.TooLong = BadInput role.Input TooLong
 ending_of_text text.NotText = BadInput role.Input NotText
 ending_of_text text.NoMemory = NoMemory
 
--- how a run ends where a text is no simulation
+-- how a run ends if a text is no simulation
 abbrev pub ending_of_simulation : SimulationFault → Ending
 ending_of_simulation simulation.NoMemory = NoMemory
 ending_of_simulation e = BadInput role.Input (Simulation e)
 
--- how a run ends where no text is read from a file; one that is too long can't be read
+-- how a run ends if no text is read from a file; one that is too long can't be read
 abbrev pub ending_of_file : Role → TextFault → Ending
 ending_of_file r text.CannotRead = CannotRead r
 ending_of_file r text.TooLong = CannotRead r
 ending_of_file r text.NotText = BadInput r NotText
 ending_of_file r text.NoMemory = NoMemory
 
--- how a run ends where a text isn't of its form; want of memory is no fault of the text
+-- how a run ends if a text isn't of its form; missing memory is no fault of the text
 abbrev pub ending_of_form : FormFault → Ending
 ending_of_form (form.Table table.NoMemory) = NoMemory
 ending_of_form (form.Archive archive.NoMemory) = NoMemory
@@ -57,12 +57,12 @@ ending_of_form (form.Tracker tracker.NoMemory) = NoMemory
 ending_of_form (form.Journal journal.NoMemory) = NoMemory
 ending_of_form e = BadInput (role_of e) (Form e)
 
--- how a run ends where its texts aren't opened
+-- how a run ends if its texts aren't opened
 abbrev pub ending_of_opening : OpenFault → Ending
 ending_of_opening (opening.Refused e) = ending_of_form e
 ending_of_opening opening.NoMemory = NoMemory
 
--- how a run ends where its script stopped
+-- how a run ends if its script stopped
 abbrev pub ending_of_stop : RunFault → Ending
 ending_of_stop (stopped.Input e) = ending_of_form e
 ending_of_stop stopped.Read = CannotRead role.Input
@@ -71,7 +71,7 @@ ending_of_stop stopped.NotText = BadInput role.Input NotText
 ending_of_stop stopped.Write = CannotWrite
 ending_of_stop stopped.NoMemory = NoMemory
 
--- ---- 2. what is answered and said
+-- ---- 2. the status and the line
 
 -- the name of what is wrong with a text
 abbrev pub input_fault_name : InputFault → List ℕ
@@ -94,7 +94,7 @@ status_of CannotWrite = 5
 abbrev pub line_with : List ℕ → List ℕ → List ℕ
 line_with place what = codes "transdesk: " ++ (place ++ (what ++ codes "\n"))
 
--- all that is said on standard error: one line, or nothing
+-- all that is written on standard error: one line, or nothing
 abbrev pub line_of : Ending → List ℕ
 line_of Done = []
 line_of Refused = []

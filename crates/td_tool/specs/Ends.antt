@@ -37,7 +37,7 @@ pub record WereRead (known : Option (List ℕ)) (rows : Table) (steps : List Ste
   pub simulation : IsSimulation input rows steps
 
 -- a simulation of these rows and steps ends so, and leaves that: its whole output, a front of it
--- where the writer failed, nothing where reading or memory did
+-- if the writer failed, nothing if reading or memory did
 abbrev pub EndsAs : Table → List Step → Option (List ℕ) → Option (List ℕ) → Ending → Type 0
 EndsAs rows steps old new Done =
     (any_refused rows steps ≡ false) × Appends old new (output rows steps)

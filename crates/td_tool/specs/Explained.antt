@@ -7,6 +7,7 @@ use Rattle.td_bytes.specs.Pieces.{AppendsPrefix}
 use Rattle.td_explain.specs.declared.spot.Place.{Place}
 use Rattle.td_explain.specs.declared.spot.Place.TheVariants.{Whole, Line, Stanza, Byte}
 use Rattle.td_explain.specs.Explanation.{explanation}
+use Rattle.td_report.specs.Report.{all_shown}
 use Rattle.td_words.specs.Asked.{run_words, track_words}
 use Rattle.td_words.specs.CommandLine.{RunWords, TrackWords}
 use Rattle.td_words.specs.declared.request.Request.{Request}
@@ -43,7 +44,7 @@ archive_paths archs packages sources Tracker = None
 archive_paths archs packages sources Outcomes = None
 archive_paths archs packages sources Journal = None
 
--- those of a report
+-- the paths of a report's files, by role
 abbrev pub track_paths : TrackWords → Role → Option (List ℕ)
 track_paths w Input = None
 track_paths w Archs = Some w.archs
@@ -54,7 +55,7 @@ track_paths w Tracker = Some w.tracker
 track_paths w Outcomes = None
 track_paths w Journal = None
 
--- those of waves: as of a report over the archive's own rows
+-- the paths of the files of waves: those of a report over the archive's own rows
 abbrev pub waves_paths : List ℕ → List ℕ → List ℕ → List ℕ → Role → Option (List ℕ)
 waves_paths archs packages sources tracker =
     track_paths (record {
@@ -63,10 +64,11 @@ waves_paths archs packages sources tracker =
       sources = sources;
       tracker = tracker;
       state = None;
+      shown = all_shown;
       chunk = None;
     })
 
--- those of a run
+-- the paths of a run's files, by role
 abbrev pub run_paths : RunWords → Role → Option (List ℕ)
 run_paths w Input = None
 run_paths w Archs = Some w.archs
@@ -77,11 +79,11 @@ run_paths w Tracker = w.tracker
 run_paths w Outcomes = w.outcomes
 run_paths w Journal = w.journal
 
--- what stands in the files of these paths, where it is known
+-- the bytes of the files of these paths, if they are known
 abbrev pub known_at : (List ℕ → Option (List ℕ)) → (Role → Option (List ℕ)) → Role → Option (List ℕ)
 known_at bytes paths role = option_and_then bytes (paths role)
 
--- what is on standard input, where it is known
+-- what is on standard input, if it is known
 abbrev pub known_input : Option (List ℕ) → Role → Option (List ℕ)
 known_input known Input = known
 known_input known Archs = None
@@ -104,8 +106,8 @@ paths_of (asked.Waves files tracker) role =
     (string_bytes files.sources) (string_bytes tracker) role
 paths_of (asked.Run r) role = run_paths (run_words r) role
 
--- the texts of a request, by role, where they are known: a simulation has standard input alone, and
--- of a script no place is explained
+-- the texts of a request, by role, if they are known: a simulation has only standard input, and no
+-- place of a script is explained
 abbrev pub known_of_request : Request → Option (List ℕ) → (List ℕ → Option (List ℕ)) → Role
     → Option (List ℕ)
 known_of_request asked.Simulate known bytes = known_input known
@@ -120,7 +122,7 @@ known_of_request (asked.Run r) known bytes = known_at bytes (run_paths (run_word
 
 -- ---- 2. the explanation
 
--- where there is no place no text is looked at; else the text is the known one
+-- if there is no place, no text is looked at; else the text is the known one
 abbrev pub IsLookedAt : Place → Option (List ℕ) → List ℕ → Type 0
 IsLookedAt Whole known text = Unit {0}
 IsLookedAt (Line n) known text = IfSome known (λ all. all ≡ text)
@@ -132,7 +134,7 @@ abbrev pub fault_line : Role → InputFault → List ℕ → List ℕ
 fault_line role fault text =
     explanation (label_of role) (place_of fault) (wanted_input fault) text
 
--- the line of a file that isn't read: none where it isn't known why
+-- the line of a file that isn't read: none if it isn't known why
 abbrev pub unread_line : Role → Option Cause → List ℕ
 unread_line role None = []
 unread_line role (Some cause) = explanation (label_of role) Whole (wanted_file cause) []
@@ -150,7 +152,7 @@ Explains known (CannotRead role) line =
     (cause : Option Cause) × (line ≡ unread_line role cause)
 Explains known CannotWrite line = line ≡ []
 
--- the same of a fault in one text
+-- a line explains a fault in one text, which is the known one
 abbrev pub ExplainsFile : Option (List ℕ) → Role → InputFault → List ℕ → Type 0
 ExplainsFile known role fault line =
     (text : List ℕ) × IfSome known (λ all. all ≡ text) × (line ≡ fault_line role fault text)
@@ -159,13 +161,13 @@ ExplainsFile known role fault line =
 abbrev pub IsKept : (Role → Option (List ℕ)) → Option (String Global) → Type 0
 IsKept known input = IfSome input (λ kept. IfSome (known Input) (λ all. all ≡ string_bytes kept))
 
--- the text of a simulation is kept where it is refused as one
+-- the text of a simulation is kept if it is refused as one
 abbrev pub IsTextKept : Ending → Option (String Global) → Type 0
 IsTextKept (BadInput role (Simulation e)) input = IsSome input
 IsTextKept ending input = Unit {0}
 
--- what is said of an ending: its line, and behind it the explanation where that is asked for; of
--- both a front where standard error, memory or another read fails
+-- what is written of an ending: its line, and after it the explanation if that is asked for; only a
+-- front of both if standard error, memory or another read fails
 abbrev pub SaysOf : Bool → (Role → Option (List ℕ)) → Ending → Option (List ℕ) → Option (List ℕ)
     → Type 0
 SaysOf false known ending said_before said = AppendsPrefix said_before said (line_of ending)
@@ -173,7 +175,7 @@ SaysOf true known ending said_before said =
     (line : List ℕ) × Explains known ending line
     × AppendsPrefix said_before said (line_of ending ++ line)
 
--- ---- 3. whether all of it is said
+-- ---- 3. whether all of it is written
 
 -- no text of this role is at hand: of standard input none was kept, of a file there is no path
 abbrev pub HasNoText : Role → Option (String Global) → Request → Type 0
@@ -185,32 +187,32 @@ abbrev pub IsUnseen : Place → Role → Option (String Global) → Request → 
 IsUnseen Whole role input request = ⊥
 IsUnseen place role input request = HasNoText role input request
 
--- what may be known of why the file of a path can't be read, as a text of at most so many bytes
+-- what may be known of why the file of a path can't be read, as a text of at most this many bytes
 abbrev pub Causes : Type 0
 Causes = List ℕ → ℕ → Option Cause → Bool
 
--- there is no explanation to say: no text is refused or unread, that which is refused isn't at
--- hand, or of that which is unread nothing more may be known
+-- there is no explanation to write: no text is refused or unread, the refused one isn't at hand, or
+-- nothing more may be known of the unread one
 abbrev pub HasNone : Causes → Ending → Option (String Global) → Request → Type 0
 HasNone can_be (BadInput role fault) input request = IsUnseen (place_of fault) role input request
 HasNone can_be (CannotRead role) input request =
     IfSome (paths_of request role) (λ path. can_be path file_limit None ≡ true)
 HasNone can_be ending input request = Unit {0}
 
--- a line tells a cause that there may be why the file of this path can't be read
+-- a line tells a cause for which the file of this path may be unreadable
 abbrev pub TellsCause : Causes → List ℕ → Role → List ℕ → Type 0
 TellsCause can_be path role line =
     (cause : Cause) × (can_be path file_limit (Some cause) ≡ true)
     × (line ≡ unread_line role (Some cause))
 
--- of a file that isn't read a line tells such a cause of its own
+-- the line of a file that isn't read tells a cause that this file may have
 abbrev pub TellsOwnCause : Causes → Request → Ending → List ℕ → Type 0
 TellsOwnCause can_be request (CannotRead role) line =
     IsSomeAnd (paths_of request role) (λ path. TellsCause can_be path role line)
 TellsOwnCause can_be request ending line = Unit {0}
 
--- all is said: the line of the ending, and behind it, where that is asked for, the explanation, or
--- nothing where there is none
+-- all is written: the line of the ending, and after it, if that is asked for, the explanation, or
+-- nothing if there is none
 abbrev pub SaysAll : Bool → (Role → Option (List ℕ)) → Causes → Ended → Request → Option (List ℕ)
     → Option (List ℕ) → Type 0
 SaysAll false known can_be ended request said_before said =
@@ -222,32 +224,32 @@ SaysAll true known can_be ended request said_before said =
     ⊎ (HasNone can_be ended.ending ended.input request
     × Appends said_before said (line_of ended.ending))
 
--- why a line isn't made from a file: memory is wanting, or a read of it may fail so
+-- why a line isn't made from a file: memory runs out, or a read of it may fail so
 abbrev pub FailsAgain : OneFile → Unexplained → Type 0
 FailsAgain file (unexplained.Unread why) = MayFail file why
 FailsAgain file unexplained.NoMemory = Unit {0}
 FailsAgain file unexplained.CannotWrite = ⊥
 
--- the same of that among these files which has this path
+-- why a line isn't made from the file of a path, if there is one: memory, or a read that fails so
 abbrev pub FailsFor : (List ℕ → OneFile) → Option (List ℕ) → Unexplained → Type 0
 FailsFor files path (unexplained.Unread why) = IsSomeAnd path (λ p. MayFail (files p) why)
 FailsFor files path unexplained.NoMemory = Unit {0}
 FailsFor files path unexplained.CannotWrite = ⊥
 
--- the same of a fault at a place; where that is none in a text, memory alone may be wanting
+-- why a line isn't made of a fault at a place: as from its file, or only memory if that is `Whole`
 abbrev pub FailsThere : (List ℕ → OneFile) → Place → Option (List ℕ) → Unexplained → Type 0
 FailsThere files Whole path e = e ≡ unexplained.NoMemory
 FailsThere files place path e = FailsFor files path e
 
--- the same of the refused text; of a file that isn't read memory alone is wanting, and of nothing
--- else a line
+-- why a line isn't made of an ending: as of a refused text's fault, or only memory for a file that
+-- isn't read; nothing for any other ending
 abbrev pub FailsOf : (List ℕ → OneFile) → Request → Ending → Unexplained → Type 0
 FailsOf files request (BadInput role fault) e =
     FailsThere files (place_of fault) (paths_of request role) e
 FailsOf files request (CannotRead role) e = e ≡ unexplained.NoMemory
 FailsOf files request ending e = ⊥
 
--- the bytes of a line, where there is one
+-- the bytes of a line, if there is one
 abbrev pub line_if : Option (String Global) → List ℕ
 line_if None = []
 line_if (Some line) = string_bytes line

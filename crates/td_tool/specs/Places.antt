@@ -66,7 +66,7 @@ place_in_tracker (tracker.MissingKey k) = Whole
 place_in_tracker (tracker.BadPattern at) = Byte at
 place_in_tracker tracker.NoMemory = Whole
 
--- the line of a journal's entry: entry n stands on line n + 1, where that is a number of 64 bits
+-- the line of a journal's entry: entry n is on line n + 1, if that is a number of 64 bits
 abbrev pub place_of_entry : ℕ → Place
 place_of_entry n = if nat_lt n 18446744073709551615 then Line (n + 1) else Whole
 

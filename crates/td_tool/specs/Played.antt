@@ -23,7 +23,7 @@ use Rattle.td_tool.specs.Ends.{EndsAs}
 
 -- ---- 1. by what was told
 
--- this was told, and it is written so: whole, or a front of it where the writer failed
+-- the text of this simulation is written so: whole, or a front of it if the writer failed
 abbrev pub TellsSo : Simulated → Option (List ℕ) → Option (List ℕ) → Ending → Type 0
 TellsSo told old new Done = (told.refused ≡ false) × Appends old new (string_bytes told.text)
 TellsSo told old new Refused = (told.refused ≡ true) × Appends old new (string_bytes told.text)
@@ -32,7 +32,7 @@ TellsSo told old new NoMemory = ⊥
 TellsSo told old new (CannotRead role) = ⊥
 TellsSo told old new CannotWrite = AppendsPrefix old new (string_bytes told.text)
 
--- nothing was told, for this, and nothing is written
+-- there is no simulation, for this, and nothing is written
 pub record IsUntold (fault : SimulationFault) (old new : Option (List ℕ))
     (ending : Ending) : Type 0 where
   pub ends : ending ≡ ending_of_simulation fault

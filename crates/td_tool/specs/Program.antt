@@ -12,9 +12,9 @@ use Rattle.td_words.specs.declared.request.Request.{Request}
 use Rattle.td_words.specs.declared.request.Request.TheVariants.{Simulate, Check, Track, Waves, Run}
 use Rattle.td_words.specs.declared.request.WordsFault.{WordsFault}
 use Rattle.td_words.specs.declared.request.WordsFault.TheVariants as words_fault
-use Rattle.td_report.specs.Transition.{IsReport, IsWaves}
-use Rattle.td_words.specs.Asked.{Asks, builders_said, chunk_said, request_words, run_words}
-use Rattle.td_words.specs.Asked.{track_words}
+use Rattle.td_report.specs.Transition.{IsReportOf, IsWaves}
+use Rattle.td_words.specs.Asked.{Asks, builders_said, request_words, run_words}
+use Rattle.td_words.specs.Asked.{track_said, track_words}
 use Rattle.td_words.specs.CommandLine.{AskFor, HasFiles, HasTracker, TrackWords, is_explained}
 use Rattle.td_words.specs.CommandLine.{options_of}
 use Rattle.td_tool.specs.declared.ending.Ending.{Ending}
@@ -30,58 +30,60 @@ use Rattle.td_tool.specs.Streams.{DueTo}
 
 -- ---- 1. words that ask for nothing
 
--- the status is that of a bad command line, and of this text a front is said
+-- the status is that of a bad command line, and a front of this text is written
 pub record IsBadWords (text : List ℕ) (said_before said : Option (List ℕ))
     (status : ℕ) : Type 0 where
   pub answered : status ≡ 3
   pub line : AppendsPrefix said_before said text
 
--- the status is that of want of memory, and of its line a front is said
+-- the status is that of `want of memory`, and a front of that line is written
 pub record LacksMemory (said_before said : Option (List ℕ)) (status : ℕ) : Type 0 where
   pub answered : status ≡ 4
   pub line : AppendsPrefix said_before said (line_of NoMemory)
 
--- what is said of words in which a fault was found: its own text
+-- what is written of words in which a fault was found: its own text
 abbrev pub TellsFault : WordsFault → Option (List ℕ) → Option (List ℕ) → ℕ → Type 0
 TellsFault (words_fault.Usage text) said_before said status =
     IsBadWords (string_bytes text) said_before said status
 TellsFault words_fault.NoMemory said_before said status = LacksMemory said_before said status
 
--- a fault of the words is told, and nothing is written
+-- standard error has a fault of the words, and standard output nothing
 pub record IsTold (fault : WordsFault) (old new said_before said : Option (List ℕ))
     (status : ℕ) : Type 0 where
   pub tells : TellsFault fault said_before said status
   pub kept : Keeps old new
 
--- all that is said of it
+-- all that is written of a fault of the words
 abbrev pub fault_text : WordsFault → List ℕ
 fault_text (words_fault.Usage text) = string_bytes text
 fault_text words_fault.NoMemory = line_of NoMemory
 
--- what is said where a word isn't UTF-8
+-- what is written if a word isn't UTF-8
 abbrev pub no_words : List ℕ
 no_words = codes "error: a word of the command line is not UTF-8\n"
 
--- all that is said of words that aren't read, for want of memory or else
+-- all that is written of words that aren't read, for missing memory or else
 abbrev pub unread_text : Bool → List ℕ
 unread_text true = line_of NoMemory
 unread_text false = no_words
 
--- what is said of words that aren't read, with an error of this kind
+-- what is written of words that aren't read, with an error of this kind
 pub record TellsUnread (kind : ErrorKind) (said_before said : Option (List ℕ))
     (status : ℕ) : Type 0 where
   pub memory : kind ≡ OutOfMemory → LacksMemory said_before said status
   pub other : kind ≢ OutOfMemory → IsBadWords no_words said_before said status
 
--- what is said of words with which nothing can be wrong but the number of a chunk, or of builders:
--- which numbers there may be. All other texts are `clap`'s, and no clause of it says what they are
+-- the text of words with which only the number of a chunk or of builders, or the list of statuses,
+-- can be wrong says which there may be. All other texts are `clap`'s, and no clause of it says what
+-- they are
 pub record SaysWhich (words : List (List ℕ)) (text : List ℕ) : Type 0 where
   pub chunk : (archs packages sources tracker : List ℕ) → AskFor (codes "track") words
-      → HasTracker (options_of words) archs packages sources tracker → text ≡ chunk_said
+      → HasTracker (options_of words) archs packages sources tracker
+      → text ≡ track_said (options_of words)
   pub builders : (archs packages sources : List ℕ) → AskFor (codes "run") words
       → HasFiles (options_of words) archs packages sources → text ≡ builders_said
 
--- such a text says that the words are bad, or memory has run out
+-- a text says that the words are bad, or memory has run out
 abbrev pub TellsWhy : List (List ℕ) → Option (List ℕ) → Option (List ℕ) → ℕ → Type 0
 TellsWhy words said_before said status =
     ((text : List ℕ) × SaysWhich words text × IsBadWords text said_before said status)
@@ -94,7 +96,7 @@ abbrev pub are_explained : {E : Type 0} → Result (Vec (String Global) Global) 
 are_explained (Ok given) = is_explained (options_of (map string_bytes given.items))
 are_explained (Err e) = false
 
--- the files of which a report is asked for
+-- the files of the report that the words ask for
 abbrev pub files_asked : (List ℕ → Option (List ℕ)) → (List ℕ → TextFault → Bool) → TrackWords
     → TrackFiles
 files_asked bytes can_fail w =
@@ -107,7 +109,7 @@ EndsFor Simulate known left bytes can_fail old new ending = Ends known old new e
 EndsFor (Check files) known left bytes can_fail old new ending =
     Checks (archive_files_at bytes can_fail files) old new ending
 EndsFor (Track r) known left bytes can_fail old new ending =
-    EndsSo IsReport (files_asked bytes can_fail (track_words r)) old new ending
+    EndsSo (IsReportOf r.shown) (files_asked bytes can_fail (track_words r)) old new ending
 EndsFor (Waves files tracker) known left bytes can_fail old new ending =
     EndsSo IsWaves (track_files bytes can_fail (string_bytes files.archs)
     (string_bytes files.packages) (string_bytes files.sources) None (string_bytes tracker)) old new
@@ -116,8 +118,8 @@ EndsFor (Run r) known left bytes can_fail old new ending =
     EndsRun (run_files_asked bytes can_fail (run_words r)) (string_bytes r.suite) known left old
     new ending
 
--- it ran, and is explained or not. It tells of a failed read or write of a stream only where that
--- may fail
+-- the request ran, and is explained or not. It tells of a failed read or write of a stream only if
+-- that may fail
 abbrev pub RanFor : Request → Bool → Option (List ℕ) → Option (List ℕ)
     → (List ℕ → Option (List ℕ)) → (List ℕ → TextFault → Bool) → Bool → Bool → Option (List ℕ)
     → Option (List ℕ) → Option (List ℕ) → Option (List ℕ) → ℕ → Type 0
@@ -125,7 +127,7 @@ RanFor request explained known left bytes can_fail reads writes old new said_bef
     Ran (DueTo reads writes (EndsFor request known left bytes can_fail old new)) explained
     (known_of_request request known bytes) said_before said status
 
--- builders are asked for by nothing but a run with some: all else waits for nobody
+-- a request has no builders, and waits for nobody
 abbrev pub HasNoBuilders : Request → Type 0
 HasNoBuilders Simulate = Unit {0}
 HasNoBuilders (Check files) = Unit {0}
@@ -133,8 +135,8 @@ HasNoBuilders (Track r) = Unit {0}
 HasNoBuilders (Waves files tracker) = Unit {0}
 HasNoBuilders (Run r) = r.builders ≡ 0
 
--- standard input is read for a simulation and for a run alone: for all else it is left as it was.
--- When a run leaves it, `EndsRun` says
+-- standard input is read only for a simulation and for a run: all else leaves it as it was. When a
+-- run leaves it, `EndsRun` says
 abbrev pub LeavesInput : Request → Option (List ℕ) → Option (List ℕ) → Type 0
 LeavesInput Simulate known left = Unit {0}
 LeavesInput (Check files) known left = Keeps known left
@@ -142,7 +144,7 @@ LeavesInput (Track r) known left = Keeps known left
 LeavesInput (Waves files tracker) known left = Keeps known left
 LeavesInput (Run r) known left = Unit {0}
 
--- they ask for this and it ran; all else is told, reads nothing, and writes nothing
+-- the words ask for a request, and it ran; or the program says why not, reads and writes nothing
 abbrev pub OnlyIfAsked : List (List ℕ) → Option (List ℕ) → Option (List ℕ)
     → (List ℕ → Option (List ℕ)) → (List ℕ → TextFault → Bool) → Bool → Bool → Option (List ℕ)
     → Option (List ℕ) → Option (List ℕ) → Option (List ℕ) → ℕ → Type 0

@@ -5,8 +5,8 @@ use Rattle.td_tool.specs.Explained.{SaysOf}
 use Rattle.td_inputs.specs.declared.role.Role.{Role}
 use Rattle.td_tool.specs.declared.ending.Ending.{Ending}
 
--- the status and what is said on standard error are those of one ending, with which the run ends
--- so; it is explained, by the texts that are known, or not
+-- the status and the lines on standard error are those of one ending, and the run ends with it; the
+-- ending is explained, by the texts that are known, or not
 pub record Ran (EndsSo : Ending → Type 0) (explained : Bool) (known : Role → Option (List ℕ))
     (said_before said : Option (List ℕ)) (status : ℕ) : Type 0 where
   pub ending : Ending

@@ -46,7 +46,7 @@ HasRunFailed files f = FailsAt files f.role f.fault
 abbrev pub IsWithinLimit : RunTexts → Type 0
 IsWithinLimit x = length (string_bytes x.indices.archs) ≤ file_limit
 
--- a script's inputs have these texts, and so many builders
+-- a script's inputs have these texts, and this many builders
 pub record AreInputsOf (x : Texts) (suite : List ℕ) (builders : ℕ) (inputs : Inputs) : Type 0 where
   pub texts : texts_of_inputs inputs ≡ script_texts x suite
   pub outcomes : outcomes_of inputs ≡ outcome_lines x
@@ -58,7 +58,7 @@ pub record Plays (n : ℕ) (x : Texts) (suite : List ℕ) (known old new : Optio
   pub says : PlayEnds n x suite known old new ending
   pub only : OnlyPlayEnds n x suite known ending
 
--- so it is over whatever texts the inputs have
+-- the run is played so over whatever texts the inputs have
 abbrev pub PlaysInputs : ℕ → Inputs → Option (List ℕ) → Option (List ℕ) → Option (List ℕ) → Ending
     → Type 0
 PlaysInputs n inputs known old new ending =

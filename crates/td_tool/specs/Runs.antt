@@ -30,7 +30,7 @@ use Rattle.td_tool.specs.UnreadFiles.{tells_of_unread_file}
 
 -- ---- 1. what is read
 
--- the files of an archive, those that may be given beside it, and how many builders are asked for
+-- the files of an archive, those that may be given with it, and how many builders are asked for
 pub record RunFiles : Type 0 where
   pub indices : Files
   pub state : Option OneFile
@@ -39,7 +39,7 @@ pub record RunFiles : Type 0 where
   pub journal : Option OneFile
   pub builders : ℕ
 
--- those that the words name
+-- the files that the words name
 abbrev pub run_files_asked : (List ℕ → Option (List ℕ)) → (List ℕ → TextFault → Bool) → RunWords
     → RunFiles
 run_files_asked bytes can_fail w = record {
@@ -51,7 +51,7 @@ run_files_asked bytes can_fail w = record {
   builders = w.builders;
 }
 
--- what such files hold
+-- what the files of a run hold
 pub record Texts : Type 0 where
   pub archs : List ℕ
   pub packages : List ℕ
@@ -61,19 +61,19 @@ pub record Texts : Type 0 where
   pub outcomes : Option (List ℕ)
   pub journal : Option (List ℕ)
 
--- the files that are read before that of a role hold these texts
+-- the files that are read before the rows hold these texts: those of the archive
 abbrev pub AreBeforeState : RunFiles → Texts → Type 0
 AreBeforeState files x = AreTexts files.indices x.archs x.packages x.sources
 
--- before the tracker: the state file too, where it is given
+-- the files that are read before the tracker hold these texts: the rows too, if they are given
 abbrev pub AreBeforeTracker : RunFiles → Texts → Type 0
 AreBeforeTracker files x = AreBeforeState files x × IsTextIfGiven files.state x.state
 
--- before the outcomes: the tracker too, where it is given
+-- the files that are read before the outcomes hold these texts: the tracker too, if it is given
 abbrev pub AreBeforeOutcomes : RunFiles → Texts → Type 0
 AreBeforeOutcomes files x = AreBeforeTracker files x × IsTextIfGiven files.tracker x.tracker
 
--- before the journal: the outcomes too, where they are given
+-- the files that are read before the journal hold these texts: the outcomes too, if they are given
 abbrev pub AreBeforeJournal : RunFiles → Texts → Type 0
 AreBeforeJournal files x = AreBeforeOutcomes files x × IsTextIfGiven files.outcomes x.outcomes
 
@@ -105,12 +105,12 @@ IsUnread files ending = IsUnreadBy (FailsAt files) ending
 
 -- ---- 2. how it ends
 
--- by how a script ended: with the status of a refusal where a line was refused
+-- how a run ends by how its script did: with the status of a refusal if a line was refused
 abbrev pub ending_of_script : Result ScriptEnd RunFault → Ending
 ending_of_script (Ok end) = if end.refusals == 0 then Done else Refused
 ending_of_script (Err e) = ending_of_stop e
 
--- what a script runs over: the outcomes are a crew's alone
+-- what a script runs over: only a crew has outcomes
 abbrev pub script_texts : Texts → List ℕ → script.Texts
 script_texts x suite =
     record {
@@ -130,13 +130,13 @@ ScriptEnds x suite known old new ending =
     (r : Result ScriptEnd RunFault) × Says (script_texts x suite) known old new r
     × (ending ≡ ending_of_script r)
 
--- by how a crew's script ended: as a script, or refused for a line of the outcomes
+-- how a run ends by how its crew did: as a script does, or refused for a line of the outcomes
 abbrev pub ending_of_crew : Result ScriptEnd CrewFault → Ending
 ending_of_crew (Ok end) = ending_of_script (Ok end)
 ending_of_crew (Err (crew.Run e)) = ending_of_stop e
 ending_of_crew (Err (crew.BadOutcome line)) = BadInput Outcomes (BadOutcome line)
 
--- the lines that say how builds end, none where no file is given
+-- the lines that say how builds end, none if no file is given
 abbrev pub outcome_lines : Texts → List (List ℕ)
 outcome_lines x = ended (lines_of (unwrap_or x.outcomes []))
 
@@ -152,7 +152,7 @@ CrewEnds n x suite known old new ending =
     × CrewSays (crew_tells (crew_size n)) (script_texts x suite) (outcome_lines x) known old new r
     × (ending ≡ ending_of_crew r)
 
--- a script is answered by a clerk alone, or with builders by a crew
+-- a clerk answers a script without builders, or a crew answers it with them
 abbrev pub PlayEnds : ℕ → Texts → List ℕ → Option (List ℕ) → Option (List ℕ) → Option (List ℕ)
     → Ending → Type 0
 PlayEnds n x suite known old new ending =
@@ -179,8 +179,8 @@ pub record AreKnownTexts (files : RunFiles) (x : Texts) : Type 0 where
   pub outcomes : IsKnownIfGiven files.outcomes x.outcomes
   pub journal : IsKnownIfGiven files.journal x.journal
 
--- how a run over readable texts may end: its script is answered, but for a pattern that `regex`
--- refuses, or where a file, a stream or memory fails
+-- how a run over readable texts may end: its script is answered, except for a pattern that
+-- `regex` refuses, or if a file, a stream or memory fails
 abbrev pub MayEnd : Option (List ℕ) → Ending → Type 0
 MayEnd tracker Done = Unit {0}
 MayEnd tracker Refused = Unit {0}
@@ -191,26 +191,26 @@ MayEnd tracker NoMemory = Unit {0}
 MayEnd tracker (CannotRead role) = Unit {0}
 MayEnd tracker CannotWrite = Unit {0}
 
--- where the reader is known to have a script, and the texts are readable, it ends so
+-- if the reader is known to have a script, and the texts are readable, the run may end so
 abbrev pub OnlyEnds : script.Texts → Option (List ℕ) → Ending → Type 0
 OnlyEnds x known ending =
     (text : List ℕ) → known ≡ Some text → IsScriptText text → script.AreReadable x
     → MayEnd x.tracker ending
 
--- the same of a crew, where the lines of outcomes are some
+-- if a crew's reader is known to have a script, and outcomes and texts are readable, it may end so
 abbrev pub OnlyCrewEnds : script.Texts → List (List ℕ) → Option (List ℕ) → Ending → Type 0
 OnlyCrewEnds x lines known ending =
     (text : List ℕ) → known ≡ Some text → IsScriptText text → AreRead lines → script.AreReadable x
     → MayEnd x.tracker ending
 
--- by whether there are builders
+-- how a run may end, by whether there are builders
 abbrev pub OnlyPlayEnds : ℕ → Texts → List ℕ → Option (List ℕ) → Ending → Type 0
 OnlyPlayEnds n x suite known ending =
     MatchBool (n == 0) (OnlyEnds (script_texts x suite) known ending)
     (OnlyCrewEnds (script_texts x suite) (outcome_lines x) known ending)
 
 -- a run over these files ends so: the ending is as it says, a script over readable texts is
--- answered, and where a file isn't read, standard input is left as it was
+-- answered, and if a file isn't read, standard input is left as it was
 pub record EndsRun (files : RunFiles) (suite : List ℕ) (known left old new : Option (List ℕ))
     (ending : Ending) : Type 0 where
   pub says : RunSays files suite known old new ending

@@ -6,7 +6,7 @@ use Rattle.td_tool.specs.declared.ending.Ending.TheVariants.{Done, Refused, BadI
 use Rattle.td_tool.specs.declared.ending.Ending.TheVariants.{CannotRead, CannotWrite}
 
 -- a run tells of a failed read of standard input, or of a failed write of standard output, only
--- where that stream may fail: whether it may is given of both
+-- if that stream may fail: whether it may is given for both
 abbrev pub IsDue : Bool → Bool → Ending → Type 0
 IsDue input output Done = Unit {0}
 IsDue input output Refused = Unit {0}

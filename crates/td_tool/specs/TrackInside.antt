@@ -9,7 +9,7 @@ use Rattle.td_indices.specs.Archive.{Contents}
 use Rattle.td_inputs.specs.Inputs.{AreOpened}
 use Rattle.td_inputs.specs.declared.role.Role.{Role}
 use Rattle.td_query.specs.Tracking.{Tracking}
-use Rattle.td_report.specs.Transition.{IsReport, IsWaves}
+use Rattle.td_report.specs.Transition.{IsReportOf, IsWaves}
 use Rattle.td_tool.specs.Limits.{file_limit}
 use Rattle.td_tool.specs.declared.early_texts.EarlyTexts.{EarlyTexts}
 use Rattle.td_tool.specs.declared.file_texts.FileFault.{FileFault}
@@ -25,9 +25,9 @@ use Rattle.td_tool.specs.Tracks.{AreReadable, AreRefused, AreTextsOf, EndsTold, 
 use Rattle.td_tool.specs.Tracks.{IsPatternRefused, MayFail, OneFile, Saying, TextsEndSo}
 use Rattle.td_tool.specs.Tracks.{TextsSayIt, Texts, TrackFiles, track_files}
 
--- what is told of a tracker
+-- what the text that is asked for says
 abbrev pub saying_of : Asked → Saying
-saying_of (Report chunk) = IsReport
+saying_of (Report shown chunk) = IsReportOf shown
 saying_of Waves = IsWaves
 
 -- the files of these paths
@@ -65,7 +65,7 @@ AreTextsRead files x = AreTextsOf files (texts_of x)
 abbrev pub HasFailedAt : TrackFiles → FileFault → Type 0
 HasFailedAt files f = FailsAt files f.role f.fault
 
--- the file of this role wasn't, for this
+-- the file of this role wasn't read, for this
 pub record HasFailedFor (file : OneFile) (role : Role) (f : FileFault) : Type 0 where
   pub asked : f.role ≡ role
   pub may : MayFail file f.fault
@@ -76,7 +76,7 @@ pub record HasFailedIfGiven (files : Option OneFile) (role : Role) (f : FileFaul
   pub given : files ≡ Some file
   pub failed : HasFailedFor file role f
 
--- an ending is this, or want of memory
+-- an ending is this, or memory ran out
 abbrev pub OrMemory : (Ending → Type 0) → Ending → Type 0
 OrMemory Ends ending = Ends ending ⊎ (ending ≡ NoMemory)
 
@@ -90,13 +90,13 @@ GivenSays Says c (Some rows) t text = Says c t rows text
 
 -- ---- 2. by the texts
 
--- they are told, or refused, and readable ones for nothing but a pattern
+-- what these texts say is found, or they are refused, and readable ones only for a pattern
 pub record Tells (Says : Saying) (x : Texts) (told : Result (String Global) Ending) : Type 0 where
   pub found : IfOk told (λ text. TextsSayIt Says x (string_bytes text))
   pub refused : IfErr told (OrMemory (AreRefused x))
   pub only : IfErr told (λ ending. AreReadable x → IsPatternRefused x.tracker ending)
 
--- how a run over them ends
+-- how a run over these texts ends
 pub record TellsTexts (Says : Saying) (x : Texts) (old new : Option (List ℕ))
     (ending : Ending) : Type 0 where
   pub says : ((ending ≡ NoMemory) × Keeps old new) ⊎ TextsEndSo Says x old new ending

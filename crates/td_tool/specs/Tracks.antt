@@ -28,16 +28,16 @@ use Rattle.td_tool.specs.CheckInside.{WritesSo}
 
 -- ---- 1. what is read
 
--- the bytes of a file, where they are known, and for which faults a read of it may fail
+-- the bytes of a file, if they are known, and for which faults a read of it may fail
 pub record OneFile : Type 0 where
   pub known : Option (List ℕ)
   pub can_fail : TextFault → Bool
 
--- that of a path
+-- the file of a path
 abbrev pub file_at : (List ℕ → Option (List ℕ)) → (List ℕ → TextFault → Bool) → List ℕ → OneFile
 file_at bytes can_fail path = record { known = bytes path; can_fail = can_fail path }
 
--- the files of an archive, that of rows where one is given, and that of a tracker
+-- the files of an archive, that of rows if one is given, and that of a tracker
 pub record TrackFiles : Type 0 where
   pub indices : Files
   pub state : Option OneFile
@@ -53,7 +53,7 @@ track_files bytes can_fail archs packages sources state tracker =
       tracker = file_at bytes can_fail tracker;
     }
 
--- what such files hold
+-- what the files of an archive, of rows and of a tracker hold
 pub record Texts : Type 0 where
   pub archs : List ℕ
   pub packages : List ℕ
@@ -141,7 +141,7 @@ as_script x = record {
   suite = [];
 }
 
--- a text has such a fault, and so it ends
+-- a text has a fault of this kind, and the run ends by it
 abbrev pub IsEndedBy : (FormFault → Type 0) → Ending → Type 0
 IsEndedBy Has ending = (e : FormFault) × Has e × (ending ≡ ending_of_form e)
 
@@ -151,8 +151,8 @@ AreRefused x ending = IsEndedBy (script.IsRefused (as_script x)) ending
 
 -- ---- 4. how it ends
 
--- texts were read: they are refused and nothing is written, or what they say is, whole, or a front
--- of it where the writer failed
+-- texts were read: they are refused and nothing is written, or what they say is written, whole or a
+-- front of it if the writer failed
 abbrev pub TextsEndSo : Saying → Texts → Option (List ℕ) → Option (List ℕ) → Ending → Type 0
 TextsEndSo Says x old new ending =
     (AreRefused x ending × Keeps old new)
@@ -182,7 +182,7 @@ pub record IsKnownText (known : Option (List ℕ)) (text : List ℕ) : Type 0 wh
   pub whole : known ≡ Some text
   pub read : IsFileText text
 
--- where a file that may be left out is given, it is known to hold this text; else there is none
+-- if a file that may be left out is given, it is known to hold this text; else there is none
 abbrev pub IsKnownIfGiven : Option OneFile → Option (List ℕ) → Type 0
 IsKnownIfGiven None None = Unit {0}
 IsKnownIfGiven None (Some text) = ⊥
@@ -197,8 +197,8 @@ pub record AreKnownTexts (files : TrackFiles) (x : Texts) : Type 0 where
   pub state : IsKnownIfGiven files.state x.state
   pub tracker : IsKnownText files.tracker.known x.tracker
 
--- how what such texts say may end: told, but for a pattern that `regex` refuses, or a write, memory
--- or a read of a file that fails
+-- how a run over readable texts may end: with what they say, except for a pattern that `regex`
+-- refuses, or a write, memory or a read of a file that fails
 abbrev pub EndsTold : Saying → Texts → Option (List ℕ) → Option (List ℕ) → Ending → Type 0
 EndsTold Says x old new Done = (text : List ℕ) × TextsSayIt Says x text × Appends old new text
 EndsTold Says x old new Refused = ⊥
@@ -209,7 +209,7 @@ EndsTold Says x old new (CannotRead role) = Keeps old new
 EndsTold Says x old new CannotWrite =
     (text : List ℕ) × TextsSayIt Says x text × AppendsPrefix old new text
 
--- a run over these files ends so: the ending is as it says, and readable texts are told
+-- a run over these files ends so: the ending is as it says, and what readable texts say is written
 pub record EndsSo (Says : Saying) (files : TrackFiles) (old new : Option (List ℕ))
     (ending : Ending) : Type 0 where
   pub says : SaysSo Says files old new ending

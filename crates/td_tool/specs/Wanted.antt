@@ -31,7 +31,7 @@ use Rattle.td_tool.specs.declared.input_fault.InputFault.{InputFault}
 use Rattle.td_tool.specs.declared.input_fault.InputFault.TheVariants.{TooLong, NotText, Simulation}
 use Rattle.td_tool.specs.declared.input_fault.InputFault.TheVariants.{BadOutcome, Form}
 
--- of the rows of a state file, or of the opening rows
+-- what is wanted of the rows of a state file, or of the opening rows
 abbrev pub wanted_state : StateFault → List ℕ
 wanted_state (state.BadLine n) = codes "a row, as KEY STATE PRIORITY NUMBER"
 wanted_state (state.Twice n) = codes "a key that no line above has"
@@ -39,20 +39,20 @@ wanted_state (state.NotOpening n) = codes "a state other than Building"
 wanted_state state.TooManyRows = codes "at most 1048576 rows"
 wanted_state state.NoMemory = []
 
--- of a simulation
+-- what is wanted of a simulation
 abbrev pub wanted_simulation : SimulationFault → List ℕ
 wanted_simulation (simulation.Opening e) = wanted_state e
 wanted_simulation (simulation.BadStep n) = codes "a step, as docs/FORMATS.md lists them"
 wanted_simulation simulation.NoMemory = []
 
--- of a table of architectures
+-- what is wanted of a table of architectures
 abbrev pub wanted_table : ArchsFault → List ℕ
 wanted_table (table.BadLine n) = codes "an architecture, as NAME OS CPU"
 wanted_table (table.Twice n) = codes "a name that no line above has"
 wanted_table table.TooMany = codes "at most 32 architectures"
 wanted_table table.NoMemory = []
 
--- of the lines of a control file
+-- what is wanted of the lines of a control file
 abbrev pub wanted_stanza : StanzaFault → List ℕ
 wanted_stanza (stanza.BadName n) = codes "a field, as NAME: VALUE"
 wanted_stanza (stanza.NoColon n) = codes "a colon behind the name of the field"
@@ -61,20 +61,20 @@ wanted_stanza (stanza.ContinuationFirst n) =
 wanted_stanza (stanza.Duplicate n) = codes "a field that the stanza has not yet"
 wanted_stanza stanza.NoMemory = []
 
--- of a stanza that lacks a field, or has one that names nothing
+-- what is wanted of a stanza that lacks a field, or has one that names nothing
 abbrev pub wanted_field : IndexField → List ℕ
 wanted_field field.Package = codes "a field Package that names a package"
 wanted_field field.Version = codes "a field Version"
 wanted_field field.Architecture = codes "a field Architecture"
 wanted_field field.Source = codes "a field Source that names a package"
 
--- of a stanza with a version that can't be read
+-- what is wanted of a stanza with a version that can't be read
 abbrev pub wanted_version : VersionField → List ℕ
 wanted_version version.Version = codes "a version in Version as deb-version(7) has it"
 wanted_version version.Source =
     codes "a version in the brackets of Source as deb-version(7) has it"
 
--- of a stanza with a relation that can't be read
+-- what is wanted of a stanza with a relation that can't be read
 abbrev pub wanted_relation : RelationField → List ℕ
 wanted_relation relation.Depends = codes "a relation in Depends as Debian Policy 7.1 has it"
 wanted_relation relation.PreDepends = codes "a relation in Pre-Depends as Debian Policy 7.1 has it"
@@ -84,7 +84,7 @@ wanted_relation relation.BuildDepends =
 wanted_relation relation.BuildDependsArch =
     codes "a relation in Build-Depends-Arch as Debian Policy 7.1 has it"
 
--- of an index
+-- what is wanted of an index
 abbrev pub wanted_archive : ArchiveFault → List ℕ
 wanted_archive (archive.Stanza f e) = wanted_stanza e
 wanted_archive (archive.MissingField f n field) = wanted_field field
@@ -93,13 +93,13 @@ wanted_archive (archive.BadRelation f n field) = wanted_relation field
 wanted_archive archive.TooManyRows = codes "at most 1048576 rows"
 wanted_archive archive.NoMemory = []
 
--- of a tracker that lacks a key
+-- what is wanted of a tracker that lacks a key
 abbrev pub wanted_key : TrackerKey → List ℕ
 wanted_key key.IsAffected = codes "a key is_affected"
 wanted_key key.IsGood = codes "a key is_good"
 wanted_key key.IsBad = codes "a key is_bad"
 
--- of a tracker
+-- what is wanted of a tracker
 abbrev pub wanted_tracker : TrackerFault → List ℕ
 wanted_tracker (tracker.Syntax at) =
     codes "a key and its query, as docs/FORMATS.md has trackers; at most 100 ( and ! are open"
@@ -108,7 +108,7 @@ wanted_tracker (tracker.BadPattern at) =
     codes "a pattern that regex takes: no look-around, back reference or open bracket"
 wanted_tracker tracker.NoMemory = []
 
--- of a journal
+-- what is wanted of a journal
 abbrev pub wanted_journal : ReadError → List ℕ
 wanted_journal journal.BadHeader = codes "a journal's header line with its newline, as transdesk journal 2"
 wanted_journal (journal.BadLine n) = codes "the next entry, as docs/FORMATS.md has journals"
@@ -116,7 +116,7 @@ wanted_journal (journal.Unlawful n) =
     codes "an entry that applies on the rows, or an undone command"
 wanted_journal journal.NoMemory = []
 
--- of a text that isn't of its form
+-- what is wanted of a text that isn't of its form
 abbrev pub wanted_form : FormFault → List ℕ
 wanted_form (form.Table e) = wanted_table e
 wanted_form (form.Archive e) = wanted_archive e
@@ -125,7 +125,7 @@ wanted_form (form.NoSuchRow n) = codes "a row that the indices give"
 wanted_form (form.Tracker e) = wanted_tracker e
 wanted_form (form.Journal e) = wanted_journal e
 
--- of any text
+-- what is wanted of any text
 abbrev pub wanted_input : InputFault → List ℕ
 wanted_input TooLong = codes "standard input of at most 1048576 bytes"
 wanted_input NotText = codes "a text in UTF-8"
@@ -133,7 +133,7 @@ wanted_input (Simulation e) = wanted_simulation e
 wanted_input (BadOutcome n) = codes "how a build ends, as KEY OUTCOME"
 wanted_input (Form e) = wanted_form e
 
--- of a file that can't be read
+-- what is wanted of a file that can't be read
 abbrev pub wanted_file : Cause → List ℕ
 wanted_file cause.NoSuchFile = codes "the path of a file that is there"
 wanted_file cause.NotPermitted = codes "a file that may be read"

@@ -5,7 +5,7 @@ ghost use Rattle.std.specs.IoError.{error_kind};
 ghost use Rattle.std.specs.Prelude.{OnOk, OnErr, OnSome};
 ghost use Rattle.std.specs.Io.KnownBytes.{Appends, Keeps};
 ghost use Rattle.td_bytes.specs.Pieces.{AppendsPrefix};
-ghost use Rattle.td_report.specs.Transition.{IsReport, IsWaves};
+ghost use Rattle.td_report.specs.Transition.{IsReportOf, IsWaves};
 ghost use Rattle.td_words.specs.CommandLine.{AskFor, AskForCheck, AskForRun, AskForTrack};
 ghost use Rattle.td_words.specs.CommandLine.{AskForWaves, RunWords, TrackWords, is_explained};
 ghost use Rattle.td_words.specs.CommandLine.{options_of};
@@ -40,7 +40,7 @@ use std::thread::Threads;
 use td_bytes::{Reader, WriteFault, Writer, write_whole};
 use td_words::{Call, Request, RunRequest, WordsFault, read_words};
 
-/// The status where the words ask for nothing that can be done.
+/// The status if the words ask for nothing that can be done.
 pub const BAD_WORDS: u8 = 3;
 
 // Says why words aren't read: memory ran out, or they aren't UTF-8.
@@ -57,7 +57,7 @@ fn say_unread<E: Writer>(lacks_memory: bool, faults: &mut E) -> Result<(), Write
     }
 }
 
-// The same, and the status. What can't be said is left.
+// Says why words aren't read, and answers the status. What can't be written is left.
 #[tactic(auto, using(crate::proofs::Explanations::front_said))]
 fn tell_unread<E: Writer>(error: &io::Error, faults: &mut E) -> u8
     ensures { TellsUnread (error_kind error.now)
@@ -85,7 +85,7 @@ fn say_fault<E: Writer>(fault: &WordsFault, faults: &mut E) -> Result<(), WriteF
     }
 }
 
-// The same, and the status. What can't be said is left.
+// Says why words ask for nothing, and answers the status. What can't be written is left.
 #[tactic(auto, using(crate::proofs::Explanations::front_said))]
 fn tell_fault<E: Writer>(fault: &WordsFault, faults: &mut E) -> u8
     ensures { TellsFault fault.now (E.contents faults.old) (E.contents faults.new) result }
@@ -145,7 +145,7 @@ fn do_alone<T: Texts + Sync, R: Reader, W: Writer>(
                 state: &request.state,
                 tracker: &request.tracker,
             };
-            let asked = Asked::Report(request.chunk);
+            let asked = Asked::Report(request.shown, request.chunk);
             track(rt, alloc, texts, &paths, asked, output).alone()
         }
         Request::Waves { files, tracker } => {
@@ -160,7 +160,7 @@ fn do_alone<T: Texts + Sync, R: Reader, W: Writer>(
     }
 }
 
-/// Does what a call asks for, where that is no run with builders (`crew_of`), and answers the
+/// Does what a call asks for, if that is no run with builders (`crew_of`), and answers the
 /// program's status. It waits for nobody. What can't be written to `faults` is left.
 pub fn answer_alone<T: Texts + Sync, R: Reader, W: Writer, E: Writer>(
     rt: &(impl Threads + Sync),
@@ -210,7 +210,7 @@ fn do_beside<T: Texts + Sync, R: Reader, W: Writer>(
     run_beside(rt, alloc, texts, run, reader, output).alone()
 }
 
-// The same, and answers the program's status.
+// Does the run with builders that was asked for, and answers the program's status.
 fn answer_beside<T: Texts + Sync, R: Reader, W: Writer, E: Writer>(
     rt: &(impl Threads + Wait + Sync),
     alloc: Global,
@@ -294,7 +294,7 @@ fn answer<T: Texts + Sync, R: Reader, W: Writer, E: Writer>(
         (E.contents faults.old) (E.contents faults.new) result }
     ensures track { (w : TrackWords) → AskForTrack (map string_bytes words.now) w
         → Ran (DueTo (R.can_fail reader.old) (W.can_fail output.old)
-        (EndsSo IsReport (files_asked (T.bytes texts.now) (T.can_fail texts.now) w)
+        (EndsSo (IsReportOf w.shown) (files_asked (T.bytes texts.now) (T.can_fail texts.now) w)
         (W.contents output.old) (W.contents output.new)))
         (is_explained (options_of (map string_bytes words.now)))
         (known_at (T.bytes texts.now) (track_paths w))
@@ -345,7 +345,7 @@ pub fn tool<T: Texts + Sync, R: Reader, W: Writer, E: Writer>(
     output: &mut W,
     faults: &mut E,
 ) -> u8
-    // What asks for the simulation is answered by it, and explained where that is asked for.
+    // What asks for the simulation is answered by it, and explained if that is asked for.
     ensures simulate { IsOkAnd words (λ given.
         AskFor (codes "simulate") (map string_bytes given.items))
         → Ran (DueTo (R.can_fail reader.old) (W.can_fail output.old)
@@ -364,7 +364,7 @@ pub fn tool<T: Texts + Sync, R: Reader, W: Writer, E: Writer>(
     ensures track { (w : TrackWords) → IsOkAnd words (λ given.
         AskForTrack (map string_bytes given.items) w)
         → Ran (DueTo (R.can_fail reader.old) (W.can_fail output.old)
-        (EndsSo IsReport (files_asked (T.bytes texts.now) (T.can_fail texts.now) w)
+        (EndsSo (IsReportOf w.shown) (files_asked (T.bytes texts.now) (T.can_fail texts.now) w)
         (W.contents output.old) (W.contents output.new)))
         (are_explained words) (known_at (T.bytes texts.now) (track_paths w))
         (E.contents faults.old) (E.contents faults.new) result }
@@ -387,14 +387,14 @@ pub fn tool<T: Texts + Sync, R: Reader, W: Writer, E: Writer>(
         (are_explained words) (known_at (T.bytes texts.now) (run_paths w))
         (E.contents faults.old) (E.contents faults.new) result }
     // Other words are bad, unless memory runs out, and nothing is written. Standard input is read
-    // for a simulation and for a run alone.
+    // only for a simulation and for a run.
     ensures others { IfOk words (λ given. OnlyIfAsked (map string_bytes given.items)
         (R.remaining reader.old) (R.remaining reader.new)
         (T.bytes texts.now) (T.can_fail texts.now)
         (R.can_fail reader.old) (W.can_fail output.old)
         (W.contents output.old) (W.contents output.new)
         (E.contents faults.old) (E.contents faults.new) result) }
-    // So are words that aren't UTF-8.
+    // Words that aren't UTF-8 are bad, unless memory runs out, and nothing is read or written.
     ensures unread { IfErr words (λ error. TellsUnread (error_kind error)
         (E.contents faults.old) (E.contents faults.new) result
         × Keeps (R.remaining reader.old) (R.remaining reader.new)

@@ -22,7 +22,7 @@ use td_inputs::{InputTexts, Opened, open_texts};
 use td_text::put_number;
 use td_words::ArchivePaths;
 
-/// How many there are of each.
+/// How many sources, binary packages and rows there are.
 #[derive(Drop)]
 pub struct Counts {
     pub sources: usize,
@@ -30,7 +30,7 @@ pub struct Counts {
     pub rows: usize,
 }
 
-// How many an archive has.
+// How many of each an archive has.
 fn archive_counts(archive: &Archive<'_, '_>) -> Counts
     ensures { AreCountsOf archive.now result }
 {
@@ -146,7 +146,7 @@ fn count<R: Threads + Sync, W: Writer>(
     write(line_of(alloc, counts_in(rt, alloc, read)), output)
 }
 
-/// Counts what the indices hold that have these paths. All is read before anything is written.
+/// Counts what the indices of these paths hold. All is read before anything is written.
 pub fn check<R: Threads + Sync, T: Texts + Sync, W: Writer>(
     rt: &R,
     alloc: Global,

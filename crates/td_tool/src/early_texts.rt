@@ -111,8 +111,8 @@ fn read_indices<R: Threads + Sync, T: Texts + Sync>(
     )
 }
 
-/// Reads all three, before any fault of what they say is told. What can't be read of Packages is
-/// told before what can't be of Sources.
+/// Reads all three files before any fault of what they say is found. A failed read of Packages is
+/// answered before one of Sources.
 #[tactic(auto, using(crate::proofs::FirstFiles::archs_fail, crate::proofs::FirstFiles::packages_fail, crate::proofs::FirstFiles::sources_fail))]
 pub fn read_early<R: Threads + Sync, T: Texts + Sync>(
     rt: &R,

@@ -22,7 +22,7 @@ use td_simulate::SimulationFault;
 pub enum Ending {
     /// All was done.
     Done,
-    /// All was done, and something was refused: as the output says, but for a builder who is
+    /// All was done, and something was refused. The output says what, except for a builder who is
     /// missing and a closing that differs.
     Refused,
     BadInput(Role, InputFault),
@@ -31,14 +31,14 @@ pub enum Ending {
     CannotWrite,
 }
 
-/// How a run ended, with the text of standard input where it was kept.
+/// How a run ended, with the text of standard input if it was kept.
 #[derive(Drop)]
 pub struct Ended {
     pub ending: Ending,
     pub input: Option<String>,
 }
 
-/// How a run ends where no text is read from standard input.
+/// How a run ends if no text is read from standard input.
 pub fn ending_of_text(fault: TextFault) -> Ending
     ensures { result ≡ ending_of_text fault }
 {
@@ -50,7 +50,7 @@ pub fn ending_of_text(fault: TextFault) -> Ending
     }
 }
 
-/// How a run ends where a text is no simulation.
+/// How a run ends if a text is no simulation.
 pub fn ending_of_simulation(fault: SimulationFault) -> Ending
     ensures { result ≡ ending_of_simulation fault }
 {
@@ -60,7 +60,7 @@ pub fn ending_of_simulation(fault: SimulationFault) -> Ending
     }
 }
 
-/// How a run ends where no text is read from a file.
+/// How a run ends if no text is read from a file.
 pub fn ending_of_file(role: Role, fault: TextFault) -> Ending
     ensures { result ≡ ending_of_file role fault }
 {
@@ -71,7 +71,7 @@ pub fn ending_of_file(role: Role, fault: TextFault) -> Ending
     }
 }
 
-/// How a run ends where a text isn't of its form. Want of memory is no fault of the text.
+/// How a run ends if a text isn't of its form. Missing memory is no fault of the text.
 pub fn ending_of_form(fault: FormFault) -> Ending
     ensures { result ≡ ending_of_form fault }
 {
@@ -85,7 +85,7 @@ pub fn ending_of_form(fault: FormFault) -> Ending
     }
 }
 
-/// How a run ends where its texts aren't opened.
+/// How a run ends if its texts aren't opened.
 pub fn ending_of_opening(fault: OpenFault) -> Ending
     ensures { result ≡ ending_of_opening fault }
 {
@@ -95,7 +95,7 @@ pub fn ending_of_opening(fault: OpenFault) -> Ending
     }
 }
 
-/// How a run ends where its script stopped.
+/// How a run ends if its script stopped.
 pub fn ending_of_stop(fault: RunFault) -> Ending
     ensures { result ≡ ending_of_stop fault }
 {
@@ -110,7 +110,7 @@ pub fn ending_of_stop(fault: RunFault) -> Ending
 }
 
 impl Ending {
-    /// The same, with no text kept.
+    /// A run that ended so, with no text kept.
     pub fn alone(self) -> Ended
         ensures { result ≡ record { ending = self; input = None } }
     {
@@ -133,7 +133,7 @@ impl Ending {
         }
     }
 
-    /// Writes the one line that says what went wrong, where something did.
+    /// Writes the one line that says what went wrong, if something did.
     pub fn tell<E: Writer>(self, faults: &mut E) -> Result<(), WriteFault>
         ensures whole { OnOk result
             (Appends (E.contents faults.old) (E.contents faults.new) (line_of self)) }
@@ -153,7 +153,7 @@ impl Ending {
         }
     }
 
-    /// `tell`, and the status. What can't be told is left.
+    /// Writes the line by `tell`, and answers the status. What can't be written is left.
     pub fn answer<E: Writer>(self, faults: &mut E) -> u8
         ensures status { result ≡ status_of self }
         ensures line { AppendsPrefix (E.contents faults.old) (E.contents faults.new)

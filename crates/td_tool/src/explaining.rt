@@ -1,5 +1,5 @@
 //! The explanation of a refusal, or of a file that can't be read: a second line on standard error,
-//! where one is asked for.
+//! if one is asked for.
 ghost use Rattle.std.specs.Prelude.{◌≡◌, ◌⊎◌, ◌≤◌, ◌<◌, ◌^◌, ℕ, List, Option, Some, None, Ok, Err};
 ghost use Rattle.std.specs.Prelude.{IfOk, IfErr, IfSome, IsSomeAnd, MatchResult, OnOk, length};
 ghost use Rattle.std.specs.Prelude.{option_copied, option_map, string_bytes, true};
@@ -30,7 +30,7 @@ use td_words::{ArchivePaths, Request};
 /// Why a refusal isn't explained.
 #[derive(Clone, Copy, Drop)]
 pub enum Unexplained {
-    /// Its file isn't read again.
+    /// The file of the refused text isn't read again.
     Unread(TextFault),
     NoMemory,
     CannotWrite,
@@ -50,7 +50,7 @@ fn archive_path(role: Role, files: &ArchivePaths) -> Option<&String>
     }
 }
 
-// The path of the file with this role, where the words gave one.
+// The path of the file with this role, if the words gave one.
 fn path_of(request: &Request, role: Role) -> Option<&String>
     ensures { option_map string_bytes (option_copied result) ≡ paths_of request.now role }
 {
@@ -94,7 +94,7 @@ fn explain_text(
     }
 }
 
-// The same of a file, which is read again.
+// The line of a fault in a file, which is read again.
 fn explain_file<T: Texts>(
     alloc: Global,
     texts: &T,
@@ -113,7 +113,7 @@ fn explain_file<T: Texts>(
     }
 }
 
-// The same where the fault has a place; nothing where no text of its role is at hand.
+// The line of a fault that has a place; nothing if no text of its role is at hand.
 fn explain_place<T: Texts>(
     alloc: Global,
     role: Role,
@@ -155,7 +155,7 @@ fn some_line(line: Result<String, Unexplained>) -> Result<Option<String>, Unexpl
     }
 }
 
-// The line of a file that can't be read for this cause, where that is known.
+// The line of a file that can't be read for this cause, if that is known.
 fn explain_cause(
     alloc: Global,
     role: Role,
@@ -175,7 +175,7 @@ fn explain_cause(
     }
 }
 
-// The same of the file of a role; nothing where it has no path.
+// The line of the file of a role that can't be read; nothing if the file has no path.
 fn explain_unread<T: Texts>(
     alloc: Global,
     role: Role,
@@ -196,7 +196,7 @@ fn explain_unread<T: Texts>(
     }
 }
 
-// The line that explains how a run ended, where it was refused or a file wasn't read.
+// The line that explains how a run ended, if a text was refused or a file wasn't read.
 fn explanation<T: Texts>(
     alloc: Global,
     ended: &Ended,
@@ -226,7 +226,7 @@ fn explanation<T: Texts>(
     }
 }
 
-// Writes the explanation, where there is one.
+// Writes the explanation, if there is one.
 fn put_explanation<E: Writer>(
     explanation: Result<Option<String>, Unexplained>,
     faults: &mut E,
@@ -249,7 +249,7 @@ fn put_explanation<E: Writer>(
     }
 }
 
-// Writes the line of the ending, and behind it the explanation where one is asked for, or answers
+// Writes the line of the ending, and after it the explanation if one is asked for, or answers
 // why not all is written.
 fn say<T: Texts, E: Writer>(
     alloc: Global,
@@ -283,7 +283,7 @@ fn say<T: Texts, E: Writer>(
 }
 
 /// Says on `faults` how a run of this request ended, with an explanation or without, and answers
-/// the status. What can't be said is left.
+/// the status. What can't be written is left.
 pub fn finish<T: Texts, E: Writer>(
     alloc: Global,
     explained: bool,

@@ -75,8 +75,8 @@ fn read_indices<T: Texts + Sync>(
     )
 }
 
-/// Reads all three, before anything is looked at. What can't be read of Packages is told before
-/// what can't be of Sources.
+/// Reads all three files before anything is looked at. A failed read of Packages is answered before
+/// one of Sources.
 #[tactic(auto, using(crate::proofs::FirstFiles::archs_fail, crate::proofs::FirstFiles::packages_fail, crate::proofs::FirstFiles::sources_fail))]
 pub fn read_files<T: Texts + Sync>(
     rt: &(impl Threads + Sync),

@@ -1,15 +1,15 @@
 //! What the program does, over any reader, files and writers: its words, and its subcommands.
 //!
-//! Start at `tool`: it does what the words ask for, and may wait where that is a run with builders.
+//! Start at `tool`: it does what the words ask for, and may wait if that is a run with builders.
 //! `answer_alone` does all else, `simulate` is that subcommand by itself; these wait for nobody.
 //! `Texts` is where `tool` finds files. Its subcommands are `simulation`, `checking`, `tracking`
-//! for the two that read a tracker, and `running`. How a simulation is read and played stands in
-//! `td_simulate`, how indices are read in `td_indices`, what a script says in `td_script`, what the
-//! words ask for in `td_words`.
-//! Promised: what is written is the answer to what was read, and nothing where that is refused; a
+//! for the two that read a tracker, and `running`. `td_simulate` reads and plays a simulation,
+//! `td_indices` reads indices, `td_script` answers a script, and `td_words` knows what the words
+//! ask for.
+//! Promised: what is written is the answer to what was read, and nothing if that is refused; a
 //! write that fails leaves a front of it; the status and the line on standard error say which
 //! (`specs/Ends.antt`, `specs/Checks.antt`, `specs/Tracks.antt`, `specs/Runs.antt`); and what
-//! explains a refusal or a file that can't be read, where that is asked for, is the stated line, or
+//! explains a refusal or a file that can't be read, if that is asked for, is the stated line, or
 //! a front of it (`specs/Explained.antt`).
 #![tactic(auto)]
 

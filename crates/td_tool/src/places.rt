@@ -83,7 +83,7 @@ fn place_in_tracker(fault: TrackerFault) -> Place
     }
 }
 
-// Entry n of a journal stands on line n + 1.
+// Entry n of a journal is on line n + 1.
 fn place_of_entry(n: u64) -> Place
     ensures { result ≡ place_of_entry_of n }
 {

@@ -20,7 +20,7 @@ pub struct RunTexts {
     pub journal: Option<String>,
 }
 
-/// Reads all of them, before anything is looked at.
+/// Reads all files of a run before anything is looked at.
 pub fn read_run_files<T: Texts + Sync>(
     rt: &(impl Threads + Sync),
     alloc: Global,

@@ -107,7 +107,7 @@ fn inputs_for<T: Texts + Sync>(
     inputs_by(alloc, read, request)
 }
 
-// How the script ends that the reader has, over its inputs. Nobody builds beside it.
+// How the reader's script ends, over its inputs. Nobody builds at the same time.
 fn play_alone<R: Reader, W: Writer>(
     rt: &(impl Threads + Sync),
     alloc: Global,
@@ -123,7 +123,7 @@ fn play_alone<R: Reader, W: Writer>(
     ending_of_script(run_script(rt, alloc, inputs, reader, output))
 }
 
-// How it ends beside builders.
+// How the reader's script ends, over its inputs, while builders build.
 fn play_beside<R: Reader, W: Writer>(
     rt: &(impl Threads + Wait + Sync),
     alloc: Global,
@@ -166,7 +166,7 @@ pub fn run_alone<T: Texts + Sync, R: Reader, W: Writer>(
     ending
 }
 
-/// The same beside as many builders as are asked for, for whom it may wait.
+/// Answers the reader's script with as many builders as are asked for, and may wait for them.
 pub fn run_beside<T: Texts + Sync, R: Reader, W: Writer>(
     rt: &(impl Threads + Wait + Sync),
     alloc: Global,

@@ -17,7 +17,7 @@ use td_simulate::{Simulated, SimulationFault, simulate_text};
 /// The longest standard input, in bytes.
 pub const INPUT_LIMIT: usize = 1_048_576;
 
-// How a run ends by what was told.
+// How a run ends by what was simulated, or by why nothing was.
 fn tell<W: Writer>(told: Result<Simulated, SimulationFault>, output: &mut W) -> Ending
     ensures told { IfOk told (λ t.
         TellsSo t (W.contents output.old) (W.contents output.new) result) }

@@ -28,14 +28,14 @@ pub trait Texts {
     ghost use Rattle.td_bytes.specs.declared.text.TextFault.TheVariants.{NotText, TooLong};
     ghost use Rattle.td_tool.specs.declared.cause.Cause.{Cause};
 
-    // The bytes of the file with this path, where clauses know them.
+    // The bytes of the file with this path, if clauses know them.
     ghost bytes: { Self → List ℕ → Option (List ℕ) };
 
     // For which faults a read of the file with this path may fail.
     ghost can_fail: { Self → List ℕ → TextFault → Bool };
 
-    // What may be known of why the file with this path can't be read, as a text of at most so many
-    // bytes.
+    // What may be known of why the file with this path can't be read, as a text of at most this
+    // number of bytes.
     ghost can_be: { Self → List ℕ → ℕ → Option Cause → Bool };
 
     /// Reads a whole file, a text of at most `limit` bytes.
@@ -47,11 +47,11 @@ pub trait Texts {
             → IfSome (bytes self.now path.now) (λ all. (length all ≤ limit) × ¬ IsUtf8 all) }
         ensures long { IsErrOf result TooLong
             → IfSome (bytes self.now path.now) (λ all. limit < length all) }
-        // Nobody but a file says that it can't be read.
+        // A read fails only for a fault that the file may have.
         ensures fails { IfErr result (λ fault. can_fail self.now path.now fault ≡ true) };
 
     /// Reads a whole file, a text of at most `limit` bytes, as its front and its rest, side by side;
-    /// `None` where it isn't read so, for whatever reason.
+    /// `None` if it isn't read so, for whatever reason.
     fn halves<R: Threads + Sync>(
         &self,
         rt: &R,
@@ -64,7 +64,7 @@ pub trait Texts {
         ensures within { IfSome result (λ p.
             length (string_bytes p.0 ++ string_bytes p.1) ≤ limit) };
 
-    /// Why the file with this path can't be read, as a text of at most `limit` bytes; `None` where
+    /// Why the file with this path can't be read, as a text of at most `limit` bytes; `None` if
     /// that isn't known.
     fn cause(&self, path: &str, limit: usize) -> Option<Cause>
         ensures { can_be self.now path.now limit result ≡ true };

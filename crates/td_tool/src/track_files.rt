@@ -15,26 +15,26 @@ use td_words::ArchivePaths;
 #[derive(Clone, Copy)]
 pub struct TrackPaths<'w> {
     pub files: &'w ArchivePaths,
-    /// Rows to put in the place of those that the indices say.
+    /// Rows to use instead of those that the indices say.
     pub state: &'w Option<String>,
     pub tracker: &'w String,
 }
 
-/// What is looked at over an archive: rows, where there are some, and a tracker.
+/// What is looked at over an archive: rows, if there are some, and a tracker.
 #[derive(Drop)]
 pub struct TrackerTexts {
     pub state: Option<String>,
     pub tracker: String,
 }
 
-/// What they hold.
+/// What the files hold.
 #[derive(Drop)]
 pub struct TrackTexts {
     pub indices: EarlyTexts,
     pub over: TrackerTexts,
 }
 
-/// Reads the file of a role, where one is given.
+/// Reads the file of a role, if one is given.
 pub fn read_given<T: Texts>(
     alloc: Global,
     texts: &T,
@@ -58,7 +58,7 @@ pub fn read_given<T: Texts>(
     }
 }
 
-/// Reads all of them, before any fault of what they say is told.
+/// Reads all files before any fault of what they say is found.
 pub fn read_track_files<T: Texts + Sync>(
     rt: &(impl Threads + Sync),
     alloc: Global,

@@ -4,7 +4,7 @@ ghost use Rattle.std.specs.Prelude.{string_bytes};
 ghost use Rattle.std.specs.Result.{ForOk};
 ghost use Rattle.td_inputs.specs.Opened.{texts_of as texts_opened};
 ghost use Rattle.td_query.specs.Tracking.{IsTracker, tracking};
-ghost use Rattle.td_report.specs.Transition.{IsReport};
+ghost use Rattle.td_report.specs.Transition.{IsReportOf};
 ghost use Rattle.td_report.specs.TransitionView as of;
 ghost use Rattle.td_tool.specs.CheckInside.{FileUnread};
 ghost use Rattle.td_tool.specs.Limits.{file_limit};
@@ -25,38 +25,39 @@ use td_bytes::Writer;
 use td_indices::{Archive, IndexText};
 use td_inputs::{InputTexts, Opened, given_text, open_texts};
 use td_query::Tracker;
-use td_report::Transition;
+use td_report::{Shown, Transition};
 use td_rows::Rows;
 
-/// What is to be told of a tracker.
+/// What is asked of a tracker.
 #[derive(Clone, Copy, Drop)]
 pub enum Asked {
-    /// The report, by chunks of so many rows where that is given.
-    Report(Option<usize>),
+    /// The report with these rows, by chunks of this many rows if that is given.
+    Report(Shown, Option<usize>),
     /// The levels of the affected sources.
     Waves,
 }
 
-// The report, by chunks where they are given. A chunk has a row at least.
+// The report with these rows, by chunks if they are given. A chunk has a row at least.
 fn reported(
     rt: &(impl Threads + Sync),
     alloc: Global,
     transition: &Transition<'_, '_, '_, '_>,
     rows: &Rows,
+    shown: Shown,
     chunk: Option<usize>,
 ) -> Result<String, AllocError>
     requires { of.IsMade transition.now }
     ensures { IfOk result (λ text.
-        IsReport (of.contents_of transition.now) (of.tracking_of transition.now) rows.now
+        IsReportOf shown (of.contents_of transition.now) (of.tracking_of transition.now) rows.now
         (string_bytes text)) }
 {
     match chunk {
-        Some(chunk) => transition.report_split(rt, alloc, rows, chunk.max(1)),
-        None => transition.report(alloc, rows),
+        Some(chunk) => transition.report_split(rt, alloc, rows, shown, chunk.max(1)),
+        None => transition.report_showing(alloc, rows, shown),
     }
 }
 
-// The text that is told.
+// The text that is asked for.
 fn told(
     rt: &(impl Threads + Sync),
     alloc: Global,
@@ -70,12 +71,12 @@ fn told(
         (string_bytes text)) }
 {
     match asked {
-        Asked::Report(chunk) => reported(rt, alloc, transition, rows, chunk),
+        Asked::Report(shown, chunk) => reported(rt, alloc, transition, rows, shown, chunk),
         Asked::Waves => transition.waves(alloc, rows),
     }
 }
 
-// What was made, or the ending where memory is wanting for it.
+// What was made, or the ending if memory ran out for it.
 fn or_no_memory<A: Drop>(made: Result<A, AllocError>) -> Result<A, Ending>
     ensures ok { IfOk made (λ a. result ≡ Ok a) }
     ensures err { IfErr made (λ _. result ≡ Err Ending.NoMemory) }
@@ -175,7 +176,7 @@ fn lend<'i>(
     }
 }
 
-// What is asked, of all texts.
+// The text that is asked for, by all texts.
 fn texts_say<R: Threads + Sync>(
     rt: &R,
     alloc: Global,
@@ -228,7 +229,7 @@ fn tell<R: Threads + Sync, W: Writer>(
     write(texts_say(rt, alloc, read, asked), output)
 }
 
-/// Tells what the tracker with its path says over the archive. All is read before anything is
+/// Writes what the tracker of this path says over the archive. All is read before anything is
 /// written.
 pub fn track<R: Threads + Sync, T: Texts + Sync, W: Writer>(
     rt: &R,

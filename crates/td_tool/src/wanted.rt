@@ -1,4 +1,4 @@
-//! What is wanted in the place of what is refused.
+//! What is wanted instead of what is refused.
 ghost use Rattle.std.specs.Prelude.{◌≡◌};
 ghost use Rattle.td_tool.specs.Wanted.{wanted_archive, wanted_field, wanted_file, wanted_form};
 ghost use Rattle.td_tool.specs.Wanted.{wanted_input, wanted_journal, wanted_key, wanted_relation};
@@ -16,7 +16,7 @@ use td_rows::StateFault;
 use td_simulate::SimulationFault;
 use td_stanza::StanzaFault;
 
-// Of the rows of a state file, or of the opening rows.
+// What is wanted of the rows of a state file, or of the opening rows.
 fn wanted_state(fault: StateFault) -> &'static str
     ensures { result.now ≡ wanted_state fault }
 {
@@ -29,7 +29,7 @@ fn wanted_state(fault: StateFault) -> &'static str
     }
 }
 
-// Of a simulation.
+// What is wanted of a simulation.
 fn wanted_simulation(fault: SimulationFault) -> &'static str
     ensures { result.now ≡ wanted_simulation fault }
 {
@@ -40,7 +40,7 @@ fn wanted_simulation(fault: SimulationFault) -> &'static str
     }
 }
 
-// Of a table of architectures.
+// What is wanted of a table of architectures.
 fn wanted_table(fault: ArchsFault) -> &'static str
     ensures { result.now ≡ wanted_table fault }
 {
@@ -52,7 +52,7 @@ fn wanted_table(fault: ArchsFault) -> &'static str
     }
 }
 
-// Of the lines of a control file.
+// What is wanted of the lines of a control file.
 fn wanted_stanza(fault: StanzaFault) -> &'static str
     ensures { result.now ≡ wanted_stanza fault }
 {
@@ -65,7 +65,7 @@ fn wanted_stanza(fault: StanzaFault) -> &'static str
     }
 }
 
-// Of a stanza that lacks a field, or has one that names nothing.
+// What is wanted of a stanza that lacks a field, or has one that names nothing.
 fn wanted_field(fault: IndexField) -> &'static str
     ensures { result.now ≡ wanted_field fault }
 {
@@ -77,7 +77,7 @@ fn wanted_field(fault: IndexField) -> &'static str
     }
 }
 
-// Of a stanza with a version that can't be read.
+// What is wanted of a stanza with a version that can't be read.
 fn wanted_version(field: VersionField) -> &'static str
     ensures { result.now ≡ wanted_version field }
 {
@@ -87,7 +87,7 @@ fn wanted_version(field: VersionField) -> &'static str
     }
 }
 
-// Of a stanza with a relation that can't be read.
+// What is wanted of a stanza with a relation that can't be read.
 fn wanted_relation(field: RelationField) -> &'static str
     ensures { result.now ≡ wanted_relation field }
 {
@@ -101,7 +101,7 @@ fn wanted_relation(field: RelationField) -> &'static str
     }
 }
 
-// Of an index.
+// What is wanted of an index.
 fn wanted_archive(fault: ArchiveFault) -> &'static str
     ensures { result.now ≡ wanted_archive fault }
 {
@@ -115,7 +115,7 @@ fn wanted_archive(fault: ArchiveFault) -> &'static str
     }
 }
 
-// Of a tracker that lacks a key.
+// What is wanted of a tracker that lacks a key.
 fn wanted_key(fault: TrackerKey) -> &'static str
     ensures { result.now ≡ wanted_key fault }
 {
@@ -126,7 +126,7 @@ fn wanted_key(fault: TrackerKey) -> &'static str
     }
 }
 
-// Of a tracker.
+// What is wanted of a tracker.
 fn wanted_tracker(fault: TrackerFault) -> &'static str
     ensures { result.now ≡ wanted_tracker fault }
 {
@@ -140,7 +140,7 @@ fn wanted_tracker(fault: TrackerFault) -> &'static str
     }
 }
 
-// Of a journal.
+// What is wanted of a journal.
 fn wanted_journal(fault: ReadError) -> &'static str
     ensures { result.now ≡ wanted_journal fault }
 {
@@ -152,7 +152,7 @@ fn wanted_journal(fault: ReadError) -> &'static str
     }
 }
 
-// Of a text that isn't of its form.
+// What is wanted of a text that isn't of its form.
 fn wanted_form(fault: FormFault) -> &'static str
     ensures { result.now ≡ wanted_form fault }
 {
@@ -166,7 +166,7 @@ fn wanted_form(fault: FormFault) -> &'static str
     }
 }
 
-/// What is wanted in the place of what a text is refused for.
+/// What is wanted instead of what a text is refused for.
 pub fn wanted(fault: InputFault) -> &'static str
     ensures { result.now ≡ wanted_input fault }
 {
@@ -179,7 +179,7 @@ pub fn wanted(fault: InputFault) -> &'static str
     }
 }
 
-/// What is wanted where a file can't be read.
+/// What is wanted if a file can't be read.
 pub fn wanted_of(cause: Cause) -> &'static str
     ensures { result.now ≡ wanted_file cause }
 {

@@ -19,7 +19,7 @@ abbrev waits : Held → List ℕ → Walk
 waits h id =
     record { held = h; waiting = option id; position = 1; is_trailing = false; stopped = None }
 
--- a word that is no option goes to it
+-- the walk once an option has taken a word as its value
 abbrev taken : List Rule → Held → List ℕ → List ℕ → Walk
 taken c h id word =
     record {
@@ -52,7 +52,7 @@ no_fault : (s : Shape) (h : Held) (id word : List ℕ) → IsPlainPath word
 unfolding clap_on_literals
 no_fault s h id word plain = rw (no_dashes word plain, no_dash word plain, no_flags word plain) refl
 
--- the words behind it decide
+-- a word that is a plain path is taken, and the words after it decide what is wrong
 passes : (s : Shape) (h : Held) (id word : List ℕ) (rest : List (List ℕ)) → IsPlainPath word
     → walk_fault s [] (waits h id) (word ∷ rest) ≡ walk_fault s [] (taken s.rules h id word) rest
 unfolding clap_on_literals
@@ -75,7 +75,7 @@ words_of (g ∷ gs) = option_named g.0 ∷ g.1 ∷ words_of gs
 abbrev pub stepped : Shape → Walk → List ℕ → Walk
 stepped b w word = walked b.rules [] w word
 
--- the walk behind an option and its value
+-- the walk after an option and its value
 abbrev pub past : Shape → Walk → Given → Walk
 past b w g = taken b.rules (stepped b w (option_named g.0)).held g.0 g.1
 

@@ -15,6 +15,8 @@ use Rattle.clap.specs.declared.error.Error.{Error}
 use Rattle.clap.specs.declared.error.kind.ErrorKind.TheVariants.{OutOfMemory}
 use Rattle.clap.specs.declared.parser.matches.ArgMatches.{ArgMatches}
 use Rattle.clap.proofs.OnLiterals.{clap_on_literals}
+use Rattle.td_report.specs.Report.{all_shown}
+use Rattle.td_report.specs.declared.shown.Shown.{Shown}
 use Rattle.td_words.specs.declared.request.Call.{Call}
 use Rattle.td_words.specs.declared.request.Request.{Request}
 use Rattle.td_words.specs.CommandLine.{AskFor, AskForCheck, AskForRun, AskForTrack, AskForWaves}
@@ -25,7 +27,8 @@ use Rattle.td_words.specs.CommandLine.{WavesWordsExplain, WholeRunWordsAsk, aski
 use Rattle.td_words.specs.CommandLine.{asking_for_plain_run, asking_for_track, asking_for_waves}
 use Rattle.td_words.specs.CommandLine.{chunk_in, desk, explaining, faults_of, is_explained}
 use Rattle.td_words.specs.CommandLine.{RunWords, builders_in, options_of, plain_run, rows_in}
-use Rattle.td_words.specs.CommandLine.{suite_in}
+use Rattle.td_words.specs.CommandLine.{ShownWordsAsk, suite_in}
+use Rattle.td_words.specs.ShownWords.{shown_in}
 use Rattle.td_words.specs.declared.request.WordsFault.{WordsFault}
 use Rattle.td_words.specs.Asked.{Asks, IsGivenBy, RequestWords, call_as}
 
@@ -83,22 +86,49 @@ AreOptions options a p s t state chunk =
     × (first_of (codes "tracker") options ≡ Some t)
     × (first_of (codes "state") options ≡ state)
     × (first_of (codes "chunk") options ≡ chunk)
+    × (shown_in options ≡ Some all_shown)
 
 pub has_tracker : (options : List Row) (a p s t : List ℕ) → HasFiles options a p s
     → first_of (codes "tracker") options ≡ Some t → HasTracker options a p s t
 has_tracker options a p s t files tracker = record { files = files; tracker_path = tracker }
 
+-- a report with these values that shows every row
+abbrev pub whole_report : List ℕ → List ℕ → List ℕ → List ℕ → Option (List ℕ) → Option ℕ
+    → TrackWords
+whole_report a p s t state rows = record {
+  archs = a;
+  packages = p;
+  sources = s;
+  tracker = t;
+  state = state;
+  shown = all_shown;
+  chunk = rows;
+}
+
 pub has_track : (options : List Row) (a p s t : List ℕ) (state chunk : Option (List ℕ))
     (rows : Option ℕ) → AreOptions options a p s t state chunk → chunk_in chunk ≡ Some rows
-    → HasTrack options
-    (record { archs = a; packages = p; sources = s; tracker = t; state = state; chunk = rows })
+    → HasTrack options (whole_report a p s t state rows)
 has_track options a p s t state chunk rows are same =
     record {
       files = has_tracker options a p s t
           (record { archs_path = are.0; packages_path = are.1; sources_path = are.2 }) are.3;
       state_path = are.4;
+      statuses = are.6;
       rows = ap chunk_in are.5 ∙ same;
     }
+
+-- a report that shows every row is such a one
+pub is_whole : (w : TrackWords) → w.shown ≡ all_shown
+    → whole_report w.archs w.packages w.sources w.tracker w.state w.chunk ≡ w
+is_whole w all = λ i. record {
+  archs = w.archs;
+  packages = w.packages;
+  sources = w.sources;
+  tracker = w.tracker;
+  state = w.state;
+  shown = sym all i;
+  chunk = w.chunk;
+}
 
 pub has_run : (options : List Row) (w : RunWords) → HasFiles options w.archs w.packages w.sources
     → first_of (codes "state") options ≡ w.state → first_of (codes "tracker") options ≡ w.tracker
@@ -147,61 +177,95 @@ check_explains = record { same = same; flag = flag }
     flag program archs packages sources true = refl
 
 track_asked : (program a p s t : List ℕ) (state chunk : Option (List ℕ)) (explained : Bool)
-    → (let w : TrackWords =
-    record { archs = a; packages = p; sources = s; tracker = t; state = state; chunk = None } in
-    let words = asking_for_track program w chunk ++ explaining explained in
+    → (let words = asking_for_track program (whole_report a p s t state None) chunk
+    ++ explaining explained in
     AskFor (codes "track") words × AreOptions (options_of words) a p s t state chunk)
 unfolding clap_on_literals
 track_asked program a p s t None None false =
-    ((refl, refl), (refl, refl, refl, refl, refl, refl))
+    ((refl, refl), (refl, refl, refl, refl, refl, refl, refl))
 track_asked program a p s t None (Some chunk) false =
-    ((refl, refl), (refl, refl, refl, refl, refl, refl))
+    ((refl, refl), (refl, refl, refl, refl, refl, refl, refl))
 track_asked program a p s t (Some state) None false =
-    ((refl, refl), (refl, refl, refl, refl, refl, refl))
+    ((refl, refl), (refl, refl, refl, refl, refl, refl, refl))
 track_asked program a p s t (Some state) (Some chunk) false =
-    ((refl, refl), (refl, refl, refl, refl, refl, refl))
+    ((refl, refl), (refl, refl, refl, refl, refl, refl, refl))
 track_asked program a p s t None None true =
-    ((refl, refl), (refl, refl, refl, refl, refl, refl))
+    ((refl, refl), (refl, refl, refl, refl, refl, refl, refl))
 track_asked program a p s t None (Some chunk) true =
-    ((refl, refl), (refl, refl, refl, refl, refl, refl))
+    ((refl, refl), (refl, refl, refl, refl, refl, refl, refl))
 track_asked program a p s t (Some state) None true =
-    ((refl, refl), (refl, refl, refl, refl, refl, refl))
+    ((refl, refl), (refl, refl, refl, refl, refl, refl, refl))
 track_asked program a p s t (Some state) (Some chunk) true =
-    ((refl, refl), (refl, refl, refl, refl, refl, refl))
+    ((refl, refl), (refl, refl, refl, refl, refl, refl, refl))
 
 track_same : (program : List ℕ) (w : TrackWords) (chunk : Option (List ℕ)) (explained : Bool)
-    → chunk_in chunk ≡ Some w.chunk
+    → chunk_in chunk ≡ Some w.chunk → w.shown ≡ all_shown
     → AskForTrack (asking_for_track program w chunk ++ explaining explained) w
-track_same program w chunk explained same =
+track_same program w chunk explained same all =
     let words = asking_for_track program w chunk ++ explaining explained in
     let asked = track_asked program w.archs w.packages w.sources w.tracker w.state chunk explained
     in (
       asked.0,
-      has_track (options_of words) w.archs w.packages w.sources w.tracker w.state chunk w.chunk
-          asked.1 same,
+      subst (HasTrack (options_of words)) (is_whole w all)
+          (has_track (options_of words) w.archs w.packages w.sources w.tracker w.state chunk
+          w.chunk asked.1 same),
     )
 
-track_flag : (program a p s t : List ℕ) (state chunk : Option (List ℕ)) (rows : Option ℕ)
-    (explained : Bool)
-    → (let w : TrackWords =
-    record { archs = a; packages = p; sources = s; tracker = t; state = state; chunk = rows } in
+track_flag : (program a p s t : List ℕ) (state chunk : Option (List ℕ)) (shown : Shown)
+    (rows : Option ℕ) (explained : Bool)
+    → (let w : TrackWords = record {
+      archs = a;
+      packages = p;
+      sources = s;
+      tracker = t;
+      state = state;
+      shown = shown;
+      chunk = rows;
+    } in
     is_explained (options_of (asking_for_track program w chunk ++ explaining explained))
     ≡ explained)
 unfolding clap_on_literals
-track_flag program a p s t None None rows false = refl
-track_flag program a p s t None (Some chunk) rows false = refl
-track_flag program a p s t (Some state) None rows false = refl
-track_flag program a p s t (Some state) (Some chunk) rows false = refl
-track_flag program a p s t None None rows true = refl
-track_flag program a p s t None (Some chunk) rows true = refl
-track_flag program a p s t (Some state) None rows true = refl
-track_flag program a p s t (Some state) (Some chunk) rows true = refl
+track_flag program a p s t None None shown rows false = refl
+track_flag program a p s t None (Some chunk) shown rows false = refl
+track_flag program a p s t (Some state) None shown rows false = refl
+track_flag program a p s t (Some state) (Some chunk) shown rows false = refl
+track_flag program a p s t None None shown rows true = refl
+track_flag program a p s t None (Some chunk) shown rows true = refl
+track_flag program a p s t (Some state) None shown rows true = refl
+track_flag program a p s t (Some state) (Some chunk) shown rows true = refl
 
 pub track_explains : TrackWordsExplain
 track_explains = record {
   same = track_same;
   flag = λ program w chunk explained.
-      track_flag program w.archs w.packages w.sources w.tracker w.state chunk w.chunk explained;
+      track_flag program w.archs w.packages w.sources w.tracker w.state chunk w.shown w.chunk
+      explained;
+}
+
+-- the words that say which rows are shown ask for that
+pub shown_words_ask : ShownWordsAsk
+unfolding clap_on_literals
+shown_words_ask = record {
+  only = λ program a p s t list shown same. (
+    (refl, refl),
+    record {
+      files = has_tracker _ _ _ _ _
+          (record { archs_path = refl; packages_path = refl; sources_path = refl }) refl;
+      state_path = refl;
+      statuses = same;
+      rows = refl;
+    },
+  );
+  summary = λ program a p s t. (
+    (refl, refl),
+    record {
+      files = has_tracker _ _ _ _ _
+          (record { archs_path = refl; packages_path = refl; sources_path = refl }) refl;
+      state_path = refl;
+      statuses = refl;
+      rows = refl;
+    },
+  );
 }
 
 pub waves_explain : WavesWordsExplain
@@ -261,9 +325,9 @@ asks_for_check program archs packages sources =
     check_explains.same program archs packages sources false
 
 pub asks_for_track : TrackWordsAsk
-asks_for_track program w chunk same =
+asks_for_track program w chunk same all =
     subst (λ words. AskForTrack words w) (append_nothing (asking_for_track program w chunk))
-    (track_same program w chunk false same)
+    (track_same program w chunk false same all)
   where
     append_nothing : (words : List (List ℕ)) → words ++ [] ≡ words
     append_nothing [] = refl
@@ -299,13 +363,13 @@ pub asks : (words : List (List ℕ)) (found : Option (List ℕ × List Row)) (as
     → Asks words asked
 asks words found asked same fine is = (fine, subst (λ o. IsGivenBy o asked) same is)
 
--- what `clap` says of words by the command that was built, it says of these words
+-- what `clap` says of words by the command that was built, it says of them by `desk`
 pub said_of_words : (Says : App → Type 0) (built : App) → built ≡ desk
     → (is_simple_and_free built ≡ true → Says built) → Says desk
 said_of_words Says built same says =
     subst (λ a. is_simple_and_free a ≡ true → Says a) same says is_plain
 
--- where nothing is wrong with the words, only memory is wanting
+-- if nothing is wrong with the words, the error is that memory ran out
 pub no_kind : (e : Error) → HasKind [] e → kind_of e ≡ OutOfMemory
 no_kind e (inl memory) = memory
 no_kind e (inr among) = absurd among
@@ -317,6 +381,6 @@ only_memory built words e same none kinds =
     no_kind e (subst (λ k. HasKind k e) none
     (said_of_words (λ a. HasKind (fault_of a words) e) built same kinds))
 
--- want of memory may stand for any text
+-- a fault of missing memory counts as one with any text
 pub memory_said : (fault : WordsFault) (text : List ℕ) → fault ≡ NoMemory → IsUsage fault text
 memory_said fault text is = subst (λ e. IsUsage e text) (sym is) tt

@@ -11,14 +11,15 @@ use Rattle.clap.specs.Simple.{Shape, built, subcommand_of}
 use Rattle.clap.proofs.OnLiterals.{clap_on_literals}
 use Rattle.td_words.specs.CommandLine.{AskFor, AskForCheck, AskForTrack, DeskValues, HasFiles}
 use Rattle.td_words.specs.CommandLine.{HasRun, HasTrack, HasTracker, IsPlainPath}
-use Rattle.td_words.specs.CommandLine.{TrackWords, asking_apart, check_shape, chunk_in}
+use Rattle.td_words.specs.CommandLine.{asking_apart, check_shape, chunk_in}
 use Rattle.td_words.specs.CommandLine.{desk, faults_of, name_in, options_of, plain_run, rows_in}
 use Rattle.td_words.specs.CommandLine.{run_shape, track_shape, waves_shape, whole_run}
 use Rattle.td_words.specs.WordsApart.{AreDeskPlain, ArePlain, IsPlainIfGiven}
 use Rattle.td_words.specs.WordsApart.{SeparatePlainRunWordsAsk, SeparateTrackWordsAsk}
 use Rattle.td_words.specs.WordsApart.{SeparateWavesWordsAsk, SeparateWholeRunWordsAsk}
 use Rattle.td_words.specs.WordsApart.{plain_run_apart, track_apart, waves_apart, whole_run_apart}
-use Rattle.td_words.proofs.Asking.{AreOptions, has_run, has_track, has_tracker}
+use Rattle.td_words.proofs.Asking.{AreOptions, has_run, has_track, has_tracker, is_whole}
+use Rattle.td_words.proofs.Asking.{whole_report}
 use Rattle.td_words.proofs.Apart.{Given, Opens, end_fault, ended, level_passes, stepped, walk_is}
 use Rattle.td_words.proofs.Apart.{words_of}
 
@@ -30,7 +31,7 @@ built_as name shape = unwrap_or (find (λ s. bytes_eq s.name name) (built desk).
 abbrev archive_given : List ℕ → List ℕ → List ℕ → List Given → List Given
 archive_given a p s more = (codes "archs", a) ∷ (codes "packages", p) ∷ (codes "sources", s) ∷ more
 
--- what a subcommand is entered with, once the words behind it are walked through
+-- what a subcommand is entered with, once the words after it are walked through
 abbrev entered : List ℕ → Shape → List Given → Option (List ℕ × List Row)
 entered name b gs =
     Some (name, finished b.rules (fold (stepped b) (walk_from nothing_held) (words_of gs)).held)
@@ -39,7 +40,7 @@ entered name b gs =
 abbrev faults_in : Shape → List Given → Kinds
 faults_in b gs = or_else (level_fault b [] nothing_held (words_of gs) false []) []
 
--- where no value is taken for an option, the words ask for the subcommand, and give these values
+-- if no value is taken for an option, the words ask for the subcommand, and give these values
 asked_by : (Has : List Row → Type 0) (name : List ℕ) (b : Shape) (words : List (List ℕ))
     (gs : List Given) → subcommand_of desk words ≡ entered name b gs
     → faults_of words ≡ faults_in b gs → end_fault b gs ≡ []
@@ -92,16 +93,12 @@ abbrev track_more : List ℕ → Option (List ℕ) → Option (List ℕ) → Lis
 track_more t state chunk =
     (codes "tracker", t) ∷ if_given (codes "state") state (if_given (codes "chunk") chunk [])
 
-abbrev words_with : List ℕ → List ℕ → List ℕ → List ℕ → Option (List ℕ) → Option ℕ → TrackWords
-words_with a p s t state rows =
-    record { archs = a; packages = p; sources = s; tracker = t; state = state; chunk = rows }
-
 module _ (program a p s t : List ℕ) (rows : Option ℕ) (h : ArePlain a p s) where
   abbrev track_given : Option (List ℕ) → Option (List ℕ) → List Given
   track_given state chunk = archive_given a p s (track_more t state chunk)
 
   abbrev track_words : Option (List ℕ) → Option (List ℕ) → List (List ℕ)
-  track_words state chunk = track_apart program (words_with a p s t state rows) chunk
+  track_words state chunk = track_apart program (whole_report a p s t state rows) chunk
 
   -- the files of an archive are no options, and what follows them decides
   track_archive : (more : List Given)
@@ -123,34 +120,35 @@ module _ (program a p s t : List ℕ) (rows : Option ℕ) (h : ArePlain a p s) w
       → AreOptions (finished built_track.rules (ended built_track (track_given state chunk)).held) a
       p s t state chunk
       → Opens built_track (ended built_track (archive_given a p s [])) (track_more t state chunk)
-      → AskForTrack (track_words state chunk) (words_with a p s t state rows)
+      → AskForTrack (track_words state chunk) (whole_report a p s t state rows)
   track_by state chunk same enters fails ends are opens =
-      asked_by (λ o. HasTrack o (words_with a p s t state rows)) (codes "track") built_track
+      asked_by (λ o. HasTrack o (whole_report a p s t state rows)) (codes "track") built_track
       (track_words state chunk) (track_given state chunk) enters fails ends
       (track_archive (track_more t state chunk) opens)
       (has_track _ a p s t state chunk rows are same)
 
   track_asks : (state chunk : Option (List ℕ)) → chunk_in chunk ≡ Some rows → IsPlainPath t
       → IsPlainIfGiven state → IsPlainIfGiven chunk
-      → AskForTrack (track_words state chunk) (words_with a p s t state rows)
+      → AskForTrack (track_words state chunk) (whole_report a p s t state rows)
   unfolding clap_on_literals
   track_asks None None same pt ps pc =
-      track_by None None same refl refl refl (refl, refl, refl, refl, refl, refl)
+      track_by None None same refl refl refl (refl, refl, refl, refl, refl, refl, refl)
       (refl, refl, pt, tt)
   track_asks None (Some c) same pt ps pc =
-      track_by None (Some c) same refl refl refl (refl, refl, refl, refl, refl, refl)
+      track_by None (Some c) same refl refl refl (refl, refl, refl, refl, refl, refl, refl)
       (refl, refl, pt, (refl, refl, pc, tt))
   track_asks (Some x) None same pt ps pc =
-      track_by (Some x) None same refl refl refl (refl, refl, refl, refl, refl, refl)
+      track_by (Some x) None same refl refl refl (refl, refl, refl, refl, refl, refl, refl)
       (refl, refl, pt, (refl, refl, ps, tt))
   track_asks (Some x) (Some c) same pt ps pc =
-      track_by (Some x) (Some c) same refl refl refl (refl, refl, refl, refl, refl, refl)
+      track_by (Some x) (Some c) same refl refl refl (refl, refl, refl, refl, refl, refl, refl)
       (refl, refl, pt, (refl, refl, ps, (refl, refl, pc, tt)))
 
 pub asks_for_track_apart : SeparateTrackWordsAsk
-asks_for_track_apart program w chunk same plain pt ps pc =
-    track_asks program w.archs w.packages w.sources w.tracker w.chunk plain w.state chunk same pt ps
-    pc
+asks_for_track_apart program w chunk same all plain pt ps pc =
+    subst (AskForTrack (track_apart program w chunk)) (is_whole w all)
+    (track_asks program w.archs w.packages w.sources w.tracker w.chunk plain w.state chunk same pt
+    ps pc)
 
 -- ---- run
 

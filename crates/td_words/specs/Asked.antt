@@ -1,8 +1,8 @@
 -- What an answer says of the words. This project's own.
 use Rattle.std.specs.Prelude.{◌≡◌, ℕ, List, [], Bool, Option, Some, Result, Ok, Err, option_map}
-use Rattle.std.specs.Prelude.{string_bytes, codes}
+use Rattle.std.specs.Prelude.{string_bytes, codes, if◌then◌else◌, is_some}
 use Rattle.clap.specs.Simple.{subcommand_of}
-use Rattle.clap.specs.Walk.{Row}
+use Rattle.clap.specs.Walk.{Row, first_of}
 use Rattle.td_words.specs.declared.request.Call.{Call}
 use Rattle.td_words.specs.declared.request.ArchivePaths.{ArchivePaths}
 use Rattle.td_words.specs.declared.request.TrackRequest.{TrackRequest}
@@ -12,7 +12,8 @@ use Rattle.td_words.specs.declared.request.Request.TheVariants.{Simulate, Check,
 use Rattle.td_words.specs.declared.request.WordsFault.{WordsFault}
 use Rattle.td_words.specs.declared.request.WordsFault.TheVariants.{Usage, NoMemory}
 use Rattle.td_words.specs.CommandLine.{HasFiles, HasRun, HasTrack, HasTracker, RunWords, TrackWords}
-use Rattle.td_words.specs.CommandLine.{desk, faults_of, name_in, rows_in}
+use Rattle.td_words.specs.CommandLine.{chunk_in, desk, faults_of, name_in, rows_in}
+use Rattle.td_words.specs.ShownWords.{shown_said}
 
 -- what a report is asked for with, by the texts that say so
 abbrev pub track_words : TrackRequest → TrackWords
@@ -22,10 +23,11 @@ track_words r = record {
   sources = string_bytes r.files.sources;
   tracker = string_bytes r.tracker;
   state = option_map string_bytes r.state;
+  shown = r.shown;
   chunk = r.chunk;
 }
 
--- what a script runs over, likewise
+-- what a run is asked for with, by the texts that say so
 abbrev pub run_words : RunRequest → RunWords
 run_words r = record {
   archs = string_bytes r.files.archs;
@@ -81,16 +83,21 @@ abbrev pub call_as : Result Request WordsFault → Bool → Result Call WordsFau
 call_as (Ok request) explained = Ok (record { request = request; explained = explained })
 call_as (Err fault) explained = Err fault
 
--- the fault says this text, unless memory is wanting for it
+-- the fault says this text, unless memory ran out for it
 abbrev pub IsUsage : WordsFault → List ℕ → Type 0
 IsUsage (Usage said) text = string_bytes said ≡ text
 IsUsage NoMemory text = Unit {0}
 
--- what is said of a chunk of any other number
+-- the text about a chunk of any other number
 abbrev pub chunk_said : List ℕ
 chunk_said = codes "error: --chunk takes a number from 1 to 1000000\n"
 
--- what is said of any other number of builders
+-- the text about a report's options: about its chunk, or else about the rows that it shows
+abbrev pub track_said : List Row → List ℕ
+track_said options = if is_some (chunk_in (first_of (codes "chunk") options)) then shown_said
+    else chunk_said
+
+-- the text about any other number of builders
 abbrev pub builders_said : List ℕ
 builders_said = codes "error: --builders takes a number from 0 to 64\n"
 

@@ -11,6 +11,9 @@ use Rattle.clap.specs.Kinds.{Kinds}
 use Rattle.clap.specs.Walk.{Row, Rule, first_of}
 use Rattle.clap.specs.Simple.{App, Shape, new_app, new_rule, on_top, subcommand_of}
 use Rattle.clap.specs.Simple.{with_rule, with_subcommand}
+use Rattle.td_report.specs.Report.{all_shown}
+use Rattle.td_report.specs.declared.shown.Shown.{Shown}
+use Rattle.td_words.specs.ShownWords.{is_set, none_shown, shown_in, statuses_at}
 
 -- an option that has to be there, once, with one value
 abbrev pub needed_option : List ℕ → Rule
@@ -42,7 +45,7 @@ with_archive_rules a =
 abbrev pub check_shape : Shape
 check_shape = (with_explanation (with_archive_rules (new_app (codes "check")))).top
 
--- `track` and `waves` need a tracker too, and `track` may be given two things more
+-- `track` and `waves` need a tracker too
 abbrev pub with_tracker_rules : App → App
 with_tracker_rules a = with_rule (with_archive_rules a) (needed_option (codes "tracker"))
 
@@ -50,14 +53,17 @@ with_tracker_rules a = with_rule (with_archive_rules a) (needed_option (codes "t
 abbrev pub waves_shape : Shape
 waves_shape = (with_explanation (with_tracker_rules (new_app (codes "waves")))).top
 
--- the subcommand `track`, which may be given other rows too, and how many a chunk has
-abbrev pub track_shape : Shape
-track_shape =
-    (with_explanation (with_rule
-    (with_rule (with_tracker_rules (new_app (codes "track"))) (option_of (codes "state")))
-    (option_of (codes "chunk")))).top
+-- `track` may be given other rows, of which statuses rows are shown, and how many rows a chunk has
+abbrev pub with_report_rules : App → App
+with_report_rules a =
+    with_rule (with_rule (with_rule (with_rule (with_tracker_rules a) (option_of (codes "state")))
+    (option_of (codes "only"))) (flag_of (codes "summary"))) (option_of (codes "chunk"))
 
--- `run` may be given what a script runs over beside the archive, and by whom its builds are done
+-- the subcommand `track`
+abbrev pub track_shape : Shape
+track_shape = (with_explanation (with_report_rules (new_app (codes "track")))).top
+
+-- `run` may be given rows, a tracker and a suite as well as an archive
 abbrev pub with_desk_rules : App → App
 with_desk_rules a =
     with_rule (with_rule (with_rule a (option_of (codes "state"))) (option_of (codes "tracker")))
@@ -86,15 +92,15 @@ desk =
     let counting = with_subcommand (with_subcommand bare_desk simulate_shape) check_shape in
     with_subcommand (with_subcommand (with_subcommand counting track_shape) waves_shape) run_shape
 
--- the name of a subcommand with its matches, and those matches
+-- the name of the subcommand that was found, if any
 abbrev pub name_in : Option (List ℕ × List Row) → Option (List ℕ)
 name_in found = option_map (λ p. p.0) found
 
--- those matches; none where no subcommand is named
+-- the matches of the subcommand that was found; none if none is named
 abbrev pub rows_in : Option (List ℕ × List Row) → List Row
 rows_in found = option_map_or (λ p. p.1) found []
 
--- the subcommand that the words name, and what they give to its options
+-- the subcommand that the words name
 abbrev pub asked_of : List (List ℕ) → Option (List ℕ)
 asked_of words = name_in (subcommand_of desk words)
 
@@ -110,10 +116,9 @@ faults_of words = fault_of desk words
 abbrev pub AskFor : List ℕ → List (List ℕ) → Type 0
 AskFor name words = (faults_of words ≡ []) × (asked_of words ≡ Some name)
 
--- whether the option to explain is among these; `clap` has a flag's value as text
+-- whether the option to explain is among these
 abbrev pub is_explained : List Row → Bool
-is_explained options =
-    option_map_or (λ v. bytes_eq v (codes "true")) (first_of (codes "explain") options) false
+is_explained options = is_set (codes "explain") options
 
 -- nothing is wrong with the words, they name this subcommand, and want an explanation or not
 pub record AskExplained (name : List ℕ) (explained : Bool) (words : List (List ℕ)) : Type 0 where
@@ -161,7 +166,7 @@ AskForWaves words archs packages sources tracker =
 abbrev pub chunk_at : List ℕ → Option ℕ
 chunk_at text = number_at 1000000 text >>= λ n. if nat_lt 0 n then Some n else None
 
--- what the option says, where it says that
+-- the chunk that the option gives, if any; `None` if its text isn't a number from 1 to 1000000
 abbrev pub chunk_in : Option (List ℕ) → Option (Option ℕ)
 chunk_in None = Some None
 chunk_in (Some text) = option_map Some (chunk_at text)
@@ -173,12 +178,14 @@ pub record TrackWords : Type 0 where
   pub sources : List ℕ
   pub tracker : List ℕ
   pub state : Option (List ℕ)
+  pub shown : Shown
   pub chunk : Option ℕ
 
 -- the options of `track` are these
 pub record HasTrack (options : List Row) (w : TrackWords) : Type 0 where
   pub files : HasTracker options w.archs w.packages w.sources w.tracker
   pub state_path : first_of (codes "state") options ≡ w.state
+  pub statuses : shown_in options ≡ Some w.shown
   pub rows : chunk_in (first_of (codes "chunk") options) ≡ Some w.chunk
 
 -- the words ask for this report
@@ -193,12 +200,12 @@ most_builders = 64
 abbrev pub builders_at : List ℕ → Option ℕ
 builders_at text = number_at most_builders text
 
--- what the option says, none where it is left out
+-- how many builders the option gives, 0 if it is left out; `None` if its text is no such number
 abbrev pub builders_in : Option (List ℕ) → Option ℕ
 builders_in None = Some 0
 builders_in (Some text) = builders_at text
 
--- the suite where none is named
+-- the suite if none is named
 abbrev pub usual_suite : List ℕ
 usual_suite = codes "unstable"
 
@@ -247,19 +254,19 @@ abbrev pub IsPlainPath : List ℕ → Type 0
 IsPlainPath [] = ⊥
 IsPlainPath (x ∷ xs) = (x == 45) ≡ false
 
--- the same words with the paths as words of their own
+-- the words that ask for a check, with the paths as words of their own
 abbrev pub asking_apart : List ℕ → List ℕ → List ℕ → List ℕ → List (List ℕ)
 asking_apart program archs packages sources =
     program ∷ codes "check" ∷ codes "--archs" ∷ archs ∷ codes "--packages" ∷ packages
     ∷ codes "--sources" ∷ sources ∷ []
 
--- both ask for the check of these files
+-- the words of a check ask for it, with each path joined to its option
 abbrev pub JoinedWordsAsk : Type 0
 JoinedWordsAsk =
     (program archs packages sources : List ℕ)
     → AskForCheck (asking_for_check program archs packages sources) archs packages sources
 
--- those with the paths as words of their own do where no path is taken for an option
+-- the words of a check ask for it with the paths apart, if no path is taken for an option
 abbrev pub SeparateWordsAsk : Type 0
 SeparateWordsAsk =
     (program archs packages sources : List ℕ) → IsPlainPath archs → IsPlainPath packages
@@ -268,7 +275,7 @@ SeparateWordsAsk =
 
 -- ---- the words of the other subcommands
 
--- `--NAME=VALUE` where there is a value
+-- `--NAME=VALUE` if there is a value
 abbrev pub given_if : List ℕ → Option (List ℕ) → List (List ℕ)
 given_if name None = []
 given_if name (Some value) = given name value ∷ []
@@ -293,11 +300,41 @@ asking_for_track program w chunk =
     (given (codes "tracker") w.tracker
     ∷ (given_if (codes "state") w.state ++ given_if (codes "chunk") chunk))
 
--- they ask for it, with other rows or without, in chunks or whole
+-- the words of a report ask for it, with other rows or without, in chunks or whole, and show every
+-- row
 abbrev pub TrackWordsAsk : Type 0
 TrackWordsAsk =
     (program : List ℕ) (w : TrackWords) (chunk : Option (List ℕ)) → chunk_in chunk ≡ Some w.chunk
-    → AskForTrack (asking_for_track program w chunk) w
+    → w.shown ≡ all_shown → AskForTrack (asking_for_track program w chunk) w
+
+-- the words that ask for a report over the archive's own rows, with one word more
+abbrev pub asking_for_shown : List ℕ → List ℕ → List ℕ → List ℕ → List ℕ → List ℕ
+    → List (List ℕ)
+asking_for_shown program archs packages sources tracker word =
+    program ∷ codes "track"
+    ∷ archive_words archs packages sources (given (codes "tracker") tracker ∷ word ∷ [])
+
+-- what they ask for
+abbrev pub shown_of : List ℕ → List ℕ → List ℕ → List ℕ → Shown → TrackWords
+shown_of archs packages sources tracker shown = record {
+  archs = archs;
+  packages = packages;
+  sources = sources;
+  tracker = tracker;
+  state = None;
+  shown = shown;
+  chunk = None;
+}
+
+-- they ask for a report of the statuses that the word lists, or of no row
+pub record ShownWordsAsk : Type 0 where
+  pub only : (program archs packages sources tracker list : List ℕ) (shown : Shown)
+      → statuses_at list ≡ Some shown
+      → AskForTrack (asking_for_shown program archs packages sources tracker
+      (given (codes "only") list)) (shown_of archs packages sources tracker shown)
+  pub summary : (program archs packages sources tracker : List ℕ)
+      → AskForTrack (asking_for_shown program archs packages sources tracker
+      (codes "--summary")) (shown_of archs packages sources tracker none_shown)
 
 -- the words that ask for waves ask for them
 abbrev pub WavesWordsAsk : Type 0
@@ -306,12 +343,12 @@ WavesWordsAsk =
     → AskForWaves (asking_for_waves program archs packages sources tracker) archs packages sources
     tracker
 
--- the words that ask for a run over an archive alone
+-- the words that ask for a run over only an archive
 abbrev pub asking_for_plain_run : List ℕ → List ℕ → List ℕ → List ℕ → List (List ℕ)
 asking_for_plain_run program archs packages sources =
     program ∷ codes "run" ∷ archive_words archs packages sources []
 
--- what they ask for
+-- the run over only an archive
 abbrev pub plain_run : List ℕ → List ℕ → List ℕ → RunWords
 plain_run archs packages sources = record {
   archs = archs;
@@ -325,7 +362,7 @@ plain_run archs packages sources = record {
   journal = None;
 }
 
--- the words that ask for a run over an archive alone ask for that
+-- the words that ask for a run over only an archive ask for that
 abbrev pub PlainRunWordsAsk : Type 0
 PlainRunWordsAsk =
     (program archs packages sources : List ℕ)
@@ -342,7 +379,7 @@ pub record DeskValues : Type 0 where
   pub outcomes : List ℕ
   pub journal : List ℕ
 
--- the words that ask for a run with all of them
+-- the words that ask for a run with all of these values
 abbrev pub asking_for_whole_run : List ℕ → List ℕ → List ℕ → List ℕ → DeskValues → List (List ℕ)
 asking_for_whole_run program archs packages sources v =
     program ∷ codes "run" ∷ archive_words archs packages sources
@@ -350,7 +387,7 @@ asking_for_whole_run program archs packages sources v =
     ∷ given (codes "suite") v.suite ∷ given (codes "builders") v.builders
     ∷ given (codes "outcomes") v.outcomes ∷ given (codes "journal") v.journal ∷ [])
 
--- what they ask for, by how many builders they say
+-- the run with all of these values, by how many builders they say
 abbrev pub whole_run : List ℕ → List ℕ → List ℕ → DeskValues → ℕ → RunWords
 whole_run archs packages sources v count = record {
   archs = archs;
@@ -374,8 +411,8 @@ WholeRunWordsAsk =
 
 -- ---- with an explanation
 
--- the words of each other subcommand ask for just what they did, and for an explanation, where that
--- word stands behind them; without it they ask for none
+-- the words of a check ask for it, whether `--explain` follows them or not, and for an
+-- explanation if and only if it does
 pub record CheckWordsExplain : Type 0 where
   pub same : (program archs packages sources : List ℕ) (explained : Bool)
       → AskForCheck (asking_for_check program archs packages sources ++ explaining explained) archs
@@ -384,16 +421,16 @@ pub record CheckWordsExplain : Type 0 where
       → is_explained (options_of
       (asking_for_check program archs packages sources ++ explaining explained)) ≡ explained
 
--- the same of the words of a report
+-- the words of a report ask for it, and for an explanation if and only if `--explain` follows
 pub record TrackWordsExplain : Type 0 where
   pub same : (program : List ℕ) (w : TrackWords) (chunk : Option (List ℕ)) (explained : Bool)
-      → chunk_in chunk ≡ Some w.chunk
+      → chunk_in chunk ≡ Some w.chunk → w.shown ≡ all_shown
       → AskForTrack (asking_for_track program w chunk ++ explaining explained) w
   pub flag : (program : List ℕ) (w : TrackWords) (chunk : Option (List ℕ)) (explained : Bool)
       → is_explained (options_of (asking_for_track program w chunk ++ explaining explained))
       ≡ explained
 
--- the same of the words of waves
+-- the words of waves ask for them, and for an explanation if and only if `--explain` follows
 pub record WavesWordsExplain : Type 0 where
   pub same : (program archs packages sources tracker : List ℕ) (explained : Bool)
       → AskForWaves (asking_for_waves program archs packages sources tracker
@@ -402,7 +439,7 @@ pub record WavesWordsExplain : Type 0 where
       → is_explained (options_of
       (asking_for_waves program archs packages sources tracker ++ explaining explained)) ≡ explained
 
--- the same of the words of a run over an archive alone
+-- the words of a plain run ask for it, and for an explanation if and only if `--explain` follows
 pub record RunWordsExplain : Type 0 where
   pub same : (program archs packages sources : List ℕ) (explained : Bool)
       → AskForRun (asking_for_plain_run program archs packages sources ++ explaining explained)

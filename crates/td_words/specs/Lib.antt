@@ -1,4 +1,5 @@
 -- What the contracts of this crate cite: a file a thing.
+pub mod ShownWords
 pub mod CommandLine
 pub mod Asked
 pub mod WordsApart

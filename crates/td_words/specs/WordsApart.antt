@@ -1,13 +1,14 @@
 -- The words of `track`, `waves` and `run` with each value as a word of its own. This project's own.
 use Rattle.std.specs.Prelude.{◌≡◌, ℕ, List, [], ◌∷◌, ◌++◌, Option, Some, None, codes}
+use Rattle.td_report.specs.Report.{all_shown}
 use Rattle.td_words.specs.CommandLine.{AskForRun, AskForTrack, AskForWaves, DeskValues, IsPlainPath}
 use Rattle.td_words.specs.CommandLine.{TrackWords, builders_at, chunk_in, plain_run, whole_run}
 
--- `--NAME VALUE`, and the words behind them
+-- `--NAME VALUE`, and the words after it
 abbrev pub apart : List ℕ → List ℕ → List (List ℕ) → List (List ℕ)
 apart name value rest = (codes "--" ++ name) ∷ value ∷ rest
 
--- the same where there is a value
+-- `--NAME VALUE` if there is a value, and the words after it
 abbrev pub apart_if : List ℕ → Option (List ℕ) → List (List ℕ) → List (List ℕ)
 apart_if name None rest = rest
 apart_if name (Some value) rest = apart name value rest
@@ -23,7 +24,7 @@ archive_apart archs packages sources rest =
     apart (codes "archs") archs
     (apart (codes "packages") packages (apart (codes "sources") sources rest))
 
--- none of the three is taken for an option
+-- none of these three paths is taken for an option
 pub record ArePlain (archs packages sources : List ℕ) : Type 0 where
   pub archs_plain : IsPlainPath archs
   pub packages_plain : IsPlainPath packages
@@ -35,7 +36,7 @@ waves_apart program archs packages sources tracker =
     program ∷ codes "waves"
     ∷ archive_apart archs packages sources (apart (codes "tracker") tracker [])
 
--- they ask for the waves of these files, where no value is taken for an option
+-- the words with each value apart ask for the waves, if no value is taken for an option
 abbrev pub SeparateWavesWordsAsk : Type 0
 SeparateWavesWordsAsk =
     (program archs packages sources tracker : List ℕ) → ArePlain archs packages sources
@@ -51,26 +52,26 @@ track_apart program w chunk =
     (apart (codes "tracker") w.tracker
     (apart_if (codes "state") w.state (apart_if (codes "chunk") chunk [])))
 
--- they ask for this report, where no value is taken for an option
+-- the words with each value apart ask for the report, if no value is taken for an option
 abbrev pub SeparateTrackWordsAsk : Type 0
 SeparateTrackWordsAsk =
     (program : List ℕ) (w : TrackWords) (chunk : Option (List ℕ)) → chunk_in chunk ≡ Some w.chunk
-    → ArePlain w.archs w.packages w.sources → IsPlainPath w.tracker → IsPlainIfGiven w.state
-    → IsPlainIfGiven chunk
+    → w.shown ≡ all_shown → ArePlain w.archs w.packages w.sources → IsPlainPath w.tracker
+    → IsPlainIfGiven w.state → IsPlainIfGiven chunk
     → AskForTrack (track_apart program w chunk) w
 
--- the words that ask for a run over an archive alone
+-- the words that ask for a run over only an archive
 abbrev pub plain_run_apart : List ℕ → List ℕ → List ℕ → List ℕ → List (List ℕ)
 plain_run_apart program archs packages sources =
     program ∷ codes "run" ∷ archive_apart archs packages sources []
 
--- they ask for this run, where no value is taken for an option
+-- the words with each value apart ask for the plain run, if no value is taken for an option
 abbrev pub SeparatePlainRunWordsAsk : Type 0
 SeparatePlainRunWordsAsk =
     (program archs packages sources : List ℕ) → ArePlain archs packages sources
     → AskForRun (plain_run_apart program archs packages sources) (plain_run archs packages sources)
 
--- nothing that is given to a run beside an archive is taken for an option
+-- nothing that is given to a run as well as an archive is taken for an option
 pub record AreDeskPlain (v : DeskValues) : Type 0 where
   pub state_plain : IsPlainPath v.state
   pub tracker_plain : IsPlainPath v.tracker
@@ -79,7 +80,7 @@ pub record AreDeskPlain (v : DeskValues) : Type 0 where
   pub outcomes_plain : IsPlainPath v.outcomes
   pub journal_plain : IsPlainPath v.journal
 
--- the words that ask for a run with all of them
+-- the words that ask for a run with all that may be given to it
 abbrev pub whole_run_apart : List ℕ → List ℕ → List ℕ → List ℕ → DeskValues → List (List ℕ)
 whole_run_apart program archs packages sources v =
     program ∷ codes "run" ∷ archive_apart archs packages sources
@@ -87,7 +88,7 @@ whole_run_apart program archs packages sources v =
     (apart (codes "builders") v.builders
     (apart (codes "outcomes") v.outcomes (apart (codes "journal") v.journal []))))))
 
--- they ask for this run, with all that they give, where no value is taken for an option
+-- the words with each value apart ask for the whole run, if no value is taken for an option
 abbrev pub SeparateWholeRunWordsAsk : Type 0
 SeparateWholeRunWordsAsk =
     (program archs packages sources : List ℕ) (v : DeskValues) (count : ℕ)

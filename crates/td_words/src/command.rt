@@ -1,4 +1,4 @@
-//! The command line as `clap` is told of it: subcommands, options and their help.
+//! The command line as it is built for `clap`: subcommands, options and their help.
 ghost use Rattle.std.specs.Prelude.{◌≡◌, IfOk, false};
 ghost use Rattle.clap.specs.Simple.{App, Shape, app_of, shape_of, with_rule, with_subcommand};
 ghost use Rattle.clap.specs.declared.builder.command.Command.TheViews.{out-Command};
@@ -6,7 +6,8 @@ ghost use Rattle.clap.specs.Walk.{rule_of};
 ghost use Rattle.td_words.specs.CommandLine.{bare_desk, check_shape, desk, flag_of, needed_option};
 ghost use Rattle.td_words.specs.CommandLine.{option_of, run_shape, simulate_shape, track_shape};
 ghost use Rattle.td_words.specs.CommandLine.{waves_shape, with_archive_rules, with_crew_rules};
-ghost use Rattle.td_words.specs.CommandLine.{with_desk_rules, with_explanation, with_tracker_rules};
+ghost use Rattle.td_words.specs.CommandLine.{with_desk_rules, with_explanation, with_report_rules};
+ghost use Rattle.td_words.specs.CommandLine.{with_tracker_rules};
 
 use clap::{Arg, ArgAction, Command};
 use std::alloc::{AllocError, Global};
@@ -38,7 +39,7 @@ docs/FORMATS.md says exactly what is read and printed, and lists the steps.";
 
 const EXPLAIN: &str = "Say on a second line where a refused text is wrong, and what is wanted";
 
-// The option to explain a refusal, which has no value.
+// An option without a value, given once or not at all.
 fn flag<'a>(alloc: Global, name: &'static str, help: &'static str) -> Arg<'a>
     ensures rule { rule_of result ≡ flag_of name.now }
     ensures global { result.global ≡ false }
@@ -49,13 +50,28 @@ fn flag<'a>(alloc: Global, name: &'static str, help: &'static str) -> Arg<'a>
         .action(ArgAction::SetTrue)
 }
 
-// The same command with it.
+// The command with one more option that has no value.
+fn with_flag<'a>(
+    alloc: Global,
+    command: Command<'a>,
+    name: &'static str,
+    help: &'static str,
+) -> Result<Command<'a>, AllocError>
+    ensures app { IfOk result (λ c.
+        app_of c ≡ with_rule (app_of command.entry) (flag_of name.now)) }
+    ensures globals { (out-Command command.entry).has_globals ≡ false
+        → IfOk result (λ c. (out-Command c).has_globals ≡ false) }
+{
+    command.arg(flag(alloc, name, help))
+}
+
+// The command with the option to explain a refusal.
 fn explained<'a>(alloc: Global, command: Command<'a>) -> Result<Command<'a>, AllocError>
     ensures app { IfOk result (λ c. app_of c ≡ with_explanation (app_of command.entry)) }
     ensures globals { (out-Command command.entry).has_globals ≡ false
         → IfOk result (λ c. (out-Command c).has_globals ≡ false) }
 {
-    command.arg(flag(alloc, "explain", EXPLAIN))
+    with_flag(alloc, command, "explain", EXPLAIN)
 }
 
 fn simulate<'a>(alloc: Global) -> Result<Command<'a>, AllocError>
@@ -105,6 +121,7 @@ The files are read whole. Standard output has the report of the rows that the tr
   KEY STATUS STATE PRIORITY NUMBER
   cyclic rows R installed I
   affected A good G bad B partial P unknown U
+With --only or --summary the lines that count stay as they are.
 Nothing is printed where a file isn't of its form; standard error names it.
 
 docs/FORMATS.md says exactly what is read and printed.";
@@ -138,7 +155,7 @@ fn file<'a>(alloc: Global, name: &'static str, help: &'static str) -> Arg<'a>
     option(alloc, name, "FILE", help).required(true)
 }
 
-// The same command with one more option that may be left out.
+// The command with one more option that may be left out.
 fn with_option<'a>(
     alloc: Global,
     command: Command<'a>,
@@ -154,7 +171,7 @@ fn with_option<'a>(
     command.arg(option(alloc, name, value, help))
 }
 
-// The same command with one more file.
+// The command with one more file.
 fn with_file<'a>(
     alloc: Global,
     command: Command<'a>,
@@ -169,7 +186,7 @@ fn with_file<'a>(
     command.arg(file(alloc, name, help))
 }
 
-// The same command with the files of an archive.
+// The command with the files of an archive.
 fn with_archive<'a>(alloc: Global, command: Command<'a>) -> Result<Command<'a>, AllocError>
     ensures app { IfOk result (λ c. app_of c ≡ with_archive_rules (app_of command.entry)) }
     ensures globals { (out-Command command.entry).has_globals ≡ false
@@ -180,7 +197,7 @@ fn with_archive<'a>(alloc: Global, command: Command<'a>) -> Result<Command<'a>, 
     with_file(alloc, command, "sources", SOURCES)
 }
 
-// The same command with the files of a tracker over an archive.
+// The command with the files of an archive and a tracker.
 fn with_tracker<'a>(alloc: Global, command: Command<'a>) -> Result<Command<'a>, AllocError>
     ensures app { IfOk result (λ c. app_of c ≡ with_tracker_rules (app_of command.entry)) }
     ensures globals { (out-Command command.entry).has_globals ≡ false
@@ -201,6 +218,22 @@ fn waves<'a>(alloc: Global) -> Result<Command<'a>, AllocError>
     explained(alloc, command)
 }
 
+// The command with the files and the options of a report.
+fn with_report<'a>(alloc: Global, command: Command<'a>) -> Result<Command<'a>, AllocError>
+    ensures app { IfOk result (λ c. app_of c ≡ with_report_rules (app_of command.entry)) }
+    ensures globals { (out-Command command.entry).has_globals ≡ false
+        → IfOk result (λ c. (out-Command c).has_globals ≡ false) }
+{
+    let command = with_tracker(alloc, command)?;
+    let only = "Print only rows of these statuses: good, bad, partial, unknown";
+    let summary = "Print no rows, only the line of each level and the last one";
+    let chunk = "Make the report by N rows at a time, in several threads: 1 to 1000000";
+    let command = with_option(alloc, command, "state", "FILE", STATE)?;
+    let command = with_option(alloc, command, "only", "STATUS,..", only)?;
+    let command = with_flag(alloc, command, "summary", summary)?;
+    with_option(alloc, command, "chunk", "N", chunk)
+}
+
 fn track<'a>(alloc: Global) -> Result<Command<'a>, AllocError>
     ensures shape { IfOk result (λ c. shape_of c ≡ track_shape) }
     ensures globals { IfOk result (λ c. (out-Command c).has_globals ≡ false) }
@@ -208,10 +241,7 @@ fn track<'a>(alloc: Global) -> Result<Command<'a>, AllocError>
     let command = Command::new(alloc, "track")
         .about("Report how far a transition has come, row by row")
         .after_help(TRACK);
-    let command = with_tracker(alloc, command)?;
-    let chunk = "Make the report by N rows at a time, in several threads: 1 to 1000000";
-    let command = with_option(alloc, command, "state", "FILE", STATE)?;
-    let command = with_option(alloc, command, "chunk", "N", chunk)?;
+    let command = with_report(alloc, command)?;
     explained(alloc, command)
 }
 
@@ -233,7 +263,7 @@ built where none is left; without builders that file is read and not looked at.
 
 docs/FORMATS.md says exactly what is read and printed, and lists the lines.";
 
-// The same command with what a desk is opened with beside an archive.
+// The command with what a desk is opened with as well as an archive.
 fn with_desk<'a>(alloc: Global, command: Command<'a>) -> Result<Command<'a>, AllocError>
     ensures app { IfOk result (λ c. app_of c ≡ with_desk_rules (app_of command.entry)) }
     ensures globals { (out-Command command.entry).has_globals ≡ false
@@ -245,7 +275,7 @@ fn with_desk<'a>(alloc: Global, command: Command<'a>) -> Result<Command<'a>, All
     with_option(alloc, command, "suite", "NAME", suite)
 }
 
-// The same command with who builds, and with the journal of an earlier run.
+// The command with who builds, and with the journal of an earlier run.
 fn with_crew<'a>(alloc: Global, command: Command<'a>) -> Result<Command<'a>, AllocError>
     ensures app { IfOk result (λ c. app_of c ≡ with_crew_rules (app_of command.entry)) }
     ensures globals { (out-Command command.entry).has_globals ≡ false
@@ -286,7 +316,7 @@ fn program<'a>(alloc: Global) -> Command<'a>
         .subcommand_required(true)
 }
 
-// The same program with one more subcommand.
+// The program with one more subcommand.
 fn with_part<'a>(
     whole: Result<Command<'a>, AllocError>,
     part: Result<Command<'a>, AllocError>,

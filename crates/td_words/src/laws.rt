@@ -3,16 +3,17 @@ ghost use Rattle.td_words.specs.CommandLine.{CheckWordsExplain, JoinedWordsAsk, 
 ghost use Rattle.td_words.specs.CommandLine.{RunWordsExplain, SeparateWordsAsk, SimulationWordsAsk};
 ghost use Rattle.td_words.specs.CommandLine.{TrackWordsAsk, TrackWordsExplain, WavesWordsAsk};
 ghost use Rattle.td_words.specs.CommandLine.{WavesWordsExplain, WholeRunWordsAsk};
+ghost use Rattle.td_words.specs.CommandLine.{ShownWordsAsk};
 ghost use Rattle.td_words.specs.WordsApart.{SeparatePlainRunWordsAsk, SeparateTrackWordsAsk};
 ghost use Rattle.td_words.specs.WordsApart.{SeparateWavesWordsAsk, SeparateWholeRunWordsAsk};
 
-/// The words of a simulation ask for it, and for an explanation where `--explain` is one of them.
+/// The words of a simulation ask for it, and for an explanation if `--explain` is one of them.
 pub fn words_of_a_simulation_ask_for_it()
     ensures { SimulationWordsAsk }
 {}
 
 /// The words of a check ask for it: with each path joined to its option, whatever it is; or as a
-/// word of its own, where it is neither empty nor begins with a hyphen.
+/// word of its own, if it isn't empty and doesn't begin with a hyphen.
 pub fn words_of_a_check_ask_for_it()
     ensures joined { JoinedWordsAsk }
     ensures separate { SeparateWordsAsk }
@@ -20,22 +21,24 @@ pub fn words_of_a_check_ask_for_it()
 {}
 
 /// The words of a report ask for it, with other rows or without, by chunks or whole: with each
-/// value joined to its option, whatever it is; or as a word of its own, where it is neither empty
-/// nor begins with a hyphen.
+/// value joined to its option, whatever it is; or as a word of its own, if it isn't empty and
+/// doesn't begin with a hyphen.
 pub fn words_of_a_track_ask_for_it()
     ensures joined { TrackWordsAsk }
     ensures separate { SeparateTrackWordsAsk }
     ensures explained { TrackWordsExplain }
+    // With a word for the rows that are shown, over the archive's own rows.
+    ensures shown { ShownWordsAsk }
 {}
 
-/// So do the words of waves.
+/// The words of waves ask for them, with each value joined to its option or as a word of its own.
 pub fn words_of_waves_ask_for_them()
     ensures joined { WavesWordsAsk }
     ensures separate { SeparateWavesWordsAsk }
     ensures explained { WavesWordsExplain }
 {}
 
-/// So do the words of a run: over an archive alone, and with everything that may be given.
+/// The words of a run ask for it: over only an archive, and with everything that may be given.
 pub fn words_of_a_run_ask_for_it()
     ensures plain { PlainRunWordsAsk }
     ensures whole { WholeRunWordsAsk }

@@ -1,17 +1,18 @@
-//! The words of the command line: what they ask for, or what is to be said of them.
+//! The words of the command line: what they ask for, or what the program says of them.
 //!
 //! Start at `read_words`. Nothing but this crate knows `clap`, and what it answers is plain data.
 //! Promised: words without a fault that name a subcommand ask for just that, unless memory runs
-//! out, and for an explanation exactly where `--explain` is given; and no words ask for anything in
-//! which `clap` finds a fault (`specs/CommandLine.antt`, over `clap`'s account of a command
-//! line). What is said of other words, help included, is only tested, but for a wrong number of
-//! `--chunk` or `--builders`.
+//! out, and for an explanation if and only if `--explain` is given. Words in which `clap` finds a
+//! fault ask for nothing (`specs/CommandLine.antt`, over `clap`'s account of a command line). What
+//! the program says of other words, help included, is only tested, except for a wrong number of
+//! `--chunk` or `--builders`, and a wrong list of `--only`.
 #![tactic(auto)]
 
 mod command;
 mod laws;
 mod request;
 mod run_words;
+mod track_words;
 
 pub use laws::{
     words_of_a_check_ask_for_it, words_of_a_run_ask_for_it, words_of_a_simulation_ask_for_it,

@@ -7,22 +7,20 @@ ghost use Rattle.clap.specs.Simple.{subcommand_rows_of};
 ghost use Rattle.clap.specs.Walk.{first_of, rows_of};
 ghost use Rattle.td_words.specs.CommandLine.{AskFor, AskForCheck, AskForRun, AskForTrack};
 ghost use Rattle.td_words.specs.CommandLine.{AskForWaves, HasFiles, HasRun, HasTrack, HasTracker};
-ghost use Rattle.td_words.specs.CommandLine.{RunWords, TrackWords, chunk_at};
-ghost use Rattle.td_words.specs.CommandLine.{chunk_in as chunk_in_of, is_explained, name_in};
+ghost use Rattle.td_words.specs.CommandLine.{RunWords, TrackWords, is_explained, name_in};
 ghost use Rattle.td_words.specs.CommandLine.{options_of, rows_in};
 ghost use Rattle.td_words.specs.Asked.{AreFilesIn, AreFilesOf, Asks, IsGivenBy, IsUsage, call_as};
-ghost use Rattle.td_words.specs.Asked.{builders_said, check_of, chunk_said, report_of};
-ghost use Rattle.td_words.specs.Asked.{request_words, run_of, waves_of};
+ghost use Rattle.td_words.specs.Asked.{builders_said, check_of, report_of, request_words, run_of};
+ghost use Rattle.td_words.specs.Asked.{track_said, waves_of};
+ghost use Rattle.td_words.specs.ShownWords.{is_set as is_set_in};
 
 use crate::command::command;
 use crate::run_words::run_in;
+use crate::track_words::track_in;
 use clap::error::ErrorKind;
 use clap::{ArgMatches, Error};
 use std::alloc::{AllocError, Global};
-use td_text::number;
-
-/// The most rows that a piece of a report has.
-const MAX_CHUNK: u64 = 1_000_000;
+use td_report::Shown;
 
 /// The paths of an archive's files.
 #[derive(Drop)]
@@ -32,13 +30,15 @@ pub struct ArchivePaths {
     pub sources: String,
 }
 
-/// A report over these files, by chunks of so many rows where that is given.
+/// A report over these files, by chunks of `chunk` rows if that is given.
 #[derive(Drop)]
 pub struct TrackRequest {
     pub files: ArchivePaths,
     pub tracker: String,
-    /// Rows to put in the place of those that the indices say.
+    /// Rows to use instead of those that the indices say.
     pub state: Option<String>,
+    /// Which rows have a line.
+    pub shown: Shown,
     pub chunk: Option<usize>,
 }
 
@@ -46,14 +46,14 @@ pub struct TrackRequest {
 #[derive(Drop)]
 pub struct RunRequest {
     pub files: ArchivePaths,
-    /// Rows to put in the place of those that the indices say.
+    /// Rows to use instead of those that the indices say.
     pub state: Option<String>,
     pub tracker: Option<String>,
     /// The suite that command lines may name.
     pub suite: String,
     /// How many builders are asked for.
     pub builders: usize,
-    /// How the builds of a crew end. Where there is no crew it is read and not looked at.
+    /// How the builds of a crew end. If there is no crew, the file is read and not looked at.
     pub outcomes: Option<String>,
     /// The journal that is gone on with.
     pub journal: Option<String>,
@@ -64,10 +64,10 @@ pub struct RunRequest {
 pub enum Request {
     /// The steps of a simulation are on standard input.
     Simulate,
-    /// What is to be counted stands in these files.
+    /// The sources, binaries and rows of these files are counted.
     Check(ArchivePaths),
     Track(TrackRequest),
-    /// That of which the levels are to be listed stands in these files.
+    /// The sources that the tracker affects are listed by levels.
     Waves {
         files: ArchivePaths,
         tracker: String,
@@ -76,7 +76,7 @@ pub enum Request {
     Run(RunRequest),
 }
 
-/// What they ask for, and whether a refusal is to be explained.
+/// What the words ask for, and whether a refusal is to be explained.
 #[derive(Drop)]
 pub struct Call {
     pub request: Request,
@@ -86,7 +86,7 @@ pub struct Call {
 /// Why the words ask for nothing that can be done.
 #[derive(Debug, Drop)]
 pub enum WordsFault {
-    /// The text that says why. Calls for help and for the version come so, too.
+    /// The text that says why. Calls for help and for the version are such faults, too.
     Usage(String),
     NoMemory,
 }
@@ -124,12 +124,22 @@ pub(crate) fn usage_fault(alloc: Global, text: &str) -> WordsFault
     }
 }
 
-/// What an option was given.
+/// The value that an option was given.
 pub(crate) fn value_in<'a>(matches: &ArgMatches<'a>, name: &str) -> Option<&'a str>
     ensures { option_map (λ s. s.now) result
         ≡ first_of name.now (rows_of (found_of matches.now)) }
 {
     matches.get_str(name)
+}
+
+/// Whether an option without a value is given.
+pub(crate) fn is_set(matches: &ArgMatches<'_>, name: &str) -> bool
+    ensures { result ≡ is_set_in name.now (rows_of (found_of matches.now)) }
+{
+    match value_in(matches, name) {
+        Some(text) => text == "true",
+        None => false,
+    }
 }
 
 // The check that the matches of `check` ask for.
@@ -194,52 +204,6 @@ pub(crate) fn given_in(
     }
 }
 
-// How many rows a piece of the report has, of 1 to 1000000.
-fn chunk_of(text: &str) -> Option<usize>
-    ensures { result ≡ chunk_at text.now }
-{
-    let rows = number(text, MAX_CHUNK)?;
-    if rows > 0 { Some(rows as usize) } else { None }
-}
-
-// The same where the option is given; `None` where it says anything else.
-fn chunk_in(matches: &ArgMatches<'_>) -> Option<Option<usize>>
-    ensures { result ≡ chunk_in_of (first_of (codes "chunk") (rows_of (found_of matches.now))) }
-{
-    match value_in(matches, "chunk") {
-        Some(text) => match chunk_of(text) {
-            Some(rows) => Some(Some(rows)),
-            None => None,
-        },
-        None => Some(None),
-    }
-}
-
-// The report that the matches of `track` ask for.
-fn track_in(alloc: Global, matches: &ArgMatches<'_>) -> Result<Request, WordsFault>
-    ensures track { (w : TrackWords) → HasTrack (rows_of (found_of matches.now)) w
-        → MatchResult result (λ r. request_words r ≡ report_of w)
-        (λ e. e ≡ WordsFault.NoMemory) }
-    ensures said { (archs packages sources tracker : List ℕ)
-        → HasTracker (rows_of (found_of matches.now)) archs packages sources tracker
-        → IfErr result (λ e. IsUsage e chunk_said) }
-    ensures only { IfOk result (λ r. IsGivenBy
-        (Some (codes "track", rows_of (found_of matches.now))) (request_words r)) }
-{
-    let files = archive_in(alloc, matches)?;
-    let tracker = needed_in(alloc, matches, "tracker")?;
-    let state = given_in(alloc, matches, "state")?;
-    let Some(chunk) = chunk_in(matches) else {
-        return Err(usage_fault(alloc, "error: --chunk takes a number from 1 to 1000000\n"));
-    };
-    Ok(Request::Track(TrackRequest {
-        files,
-        tracker,
-        state,
-        chunk,
-    }))
-}
-
 // The waves that the matches of `waves` ask for.
 fn waves_in(alloc: Global, matches: &ArgMatches<'_>) -> Result<Request, WordsFault>
     ensures waves { (archs packages sources tracker : List ℕ)
@@ -255,7 +219,7 @@ fn waves_in(alloc: Global, matches: &ArgMatches<'_>) -> Result<Request, WordsFau
     })
 }
 
-// A subcommand is required, and each is listed here: others come only where `clap` broke a promise.
+// A subcommand is required, and each is listed here: others come only if `clap` broke a promise.
 fn request_in(alloc: Global, matches: &ArgMatches<'_>) -> Result<Request, WordsFault>
     ensures simulate { name_in (subcommand_rows_of matches.now) ≡ Some (codes "simulate")
         → result ≡ Ok Request.Simulate }
@@ -282,7 +246,8 @@ fn request_in(alloc: Global, matches: &ArgMatches<'_>) -> Result<Request, WordsF
     ensures track_said { (archs packages sources tracker : List ℕ)
         → name_in (subcommand_rows_of matches.now) ≡ Some (codes "track")
         → HasTracker (rows_in (subcommand_rows_of matches.now)) archs packages sources tracker
-        → IfErr result (λ e. IsUsage e chunk_said) }
+        → IfErr result (λ e.
+        IsUsage e (track_said (rows_in (subcommand_rows_of matches.now)))) }
     ensures run_said { (archs packages sources : List ℕ)
         → name_in (subcommand_rows_of matches.now) ≡ Some (codes "run")
         → HasFiles (rows_in (subcommand_rows_of matches.now)) archs packages sources
@@ -307,13 +272,10 @@ fn is_explained_in(matches: &ArgMatches<'_>) -> bool
     let Some((_, options)) = matches.subcommand() else {
         return false;
     };
-    match value_in(options, "explain") {
-        Some(text) => text == "true",
-        None => false,
-    }
+    is_set(options, "explain")
 }
 
-// What is asked for, with that.
+// A request, and whether its refusal is to be explained.
 fn call_of(request: Result<Request, WordsFault>, explained: bool) -> Result<Call, WordsFault>
     ensures { result ≡ call_as request explained }
 {
@@ -323,7 +285,7 @@ fn call_of(request: Result<Request, WordsFault>, explained: bool) -> Result<Call
     }
 }
 
-/// Reads the program's words, of which the first is its own name.
+/// Reads the program's words; the first is its own name.
 pub fn read_words(alloc: Global, words: &[String]) -> Result<Call, WordsFault>
     // Words that ask for the simulation are answered by it, unless memory runs out.
     ensures simulate { AskFor (codes "simulate") (map string_bytes words.now)
@@ -337,11 +299,11 @@ pub fn read_words(alloc: Global, words: &[String]) -> Result<Call, WordsFault>
     ensures track { (w : TrackWords) → AskForTrack (map string_bytes words.now) w
         → MatchResult result (λ c. request_words c.request ≡ report_of w)
         (λ e. e ≡ WordsFault.NoMemory) }
-    // Where only the number of a chunk is wrong, that is said.
+    // If only the number of a chunk or the list of statuses is wrong, that is said.
     ensures track_said { (archs packages sources tracker : List ℕ)
         → AskFor (codes "track") (map string_bytes words.now)
         → HasTracker (options_of (map string_bytes words.now)) archs packages sources tracker
-        → IfErr result (λ e. IsUsage e chunk_said) }
+        → IfErr result (λ e. IsUsage e (track_said (options_of (map string_bytes words.now)))) }
     // So are words that ask for waves.
     ensures waves { (archs packages sources tracker : List ℕ)
         → AskForWaves (map string_bytes words.now) archs packages sources tracker
@@ -352,7 +314,7 @@ pub fn read_words(alloc: Global, words: &[String]) -> Result<Call, WordsFault>
     ensures run { (w : RunWords) → AskForRun (map string_bytes words.now) w
         → MatchResult result (λ c. request_words c.request ≡ run_of w)
         (λ e. e ≡ WordsFault.NoMemory) }
-    // Where only the number of builders is wrong, that is said.
+    // If only the number of builders is wrong, the fault says so.
     ensures run_said { (archs packages sources : List ℕ)
         → AskFor (codes "run") (map string_bytes words.now)
         → HasFiles (options_of (map string_bytes words.now)) archs packages sources
@@ -360,7 +322,7 @@ pub fn read_words(alloc: Global, words: &[String]) -> Result<Call, WordsFault>
     // Words that are answered are without fault, and name what they are answered by.
     ensures only { IfOk result (λ c.
         Asks (map string_bytes words.now) (request_words c.request)) }
-    // An explanation is due exactly where the option is given.
+    // An explanation is due if and only if the option is given.
     ensures explained { IfOk result (λ c. c.explained
         ≡ is_explained (options_of (map string_bytes words.now))) }
 {

@@ -18,11 +18,11 @@ use td_text::number;
 /// The most builders that a run has.
 const MAX_BUILDERS: u64 = 64;
 
-/// The suite that command lines may name where no other is given.
+/// The suite that command lines may name if no other is given.
 const SUITE: &str = "unstable";
 
-// How many builders there are, none where the option is left out; `None` where it says anything
-// else.
+// How many builders there are, 0 if the option is left out; `None` if its text is no number from
+// 0 to 64.
 fn builders_in(matches: &ArgMatches<'_>) -> Option<usize>
     ensures { result
         ≡ builders_in_of (first_of (codes "builders") (rows_of (found_of matches.now))) }
@@ -48,7 +48,7 @@ fn suite_in(alloc: Global, matches: &ArgMatches<'_>) -> Result<String, WordsFaul
     }
 }
 
-// What a desk is opened with beside an archive.
+// What a desk is opened with as well as an archive.
 #[derive(Drop)]
 struct DeskOptions {
     state: Option<String>,

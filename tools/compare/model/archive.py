@@ -6,6 +6,7 @@ from desk import Row
 from versions import compare, equal, matches, read_relation, split_rebuild
 
 NAME_BYTES = "abcdefghijklmnopqrstuvwxyz0123456789+.-"
+STATUSES = ("good", "bad", "partial", "unknown")
 
 
 class Package:
@@ -147,9 +148,9 @@ class Archive:
         """The lines of `waves`."""
         return [line for head, sources in self.blocks(tracker) for line in [head] + sources]
 
-    def report(self, tracker, rows):
-        """The lines of a report over these rows."""
-        lines, counts = [f"tracker {tracker.title}"], {"good": 0, "bad": 0, "partial": 0, "unknown": 0}
+    def report(self, tracker, rows, shown=STATUSES):
+        """The lines of a report over these rows that shows those of some statuses."""
+        lines, counts = [f"tracker {tracker.title}"], dict.fromkeys(STATUSES, 0)
         for head, sources in self.blocks(tracker):
             found = [(key, rows[key], self.status(tracker, key)) for key in self.keys()
                      if key[0] in sources and self.status(tracker, key)]
@@ -157,7 +158,8 @@ class Archive:
             lines.append(f"{head} rows {len(found)} installed {installed}")
             for key, row, status in found:
                 counts[status] += 1
-                lines.append(f"{key[0]}/{key[1]} {status} {row.state} {row.priority} {row.number}")
+                if status in shown:
+                    lines.append(f"{key[0]}/{key[1]} {status} {row.state} {row.priority} {row.number}")
         told = " ".join(f"{name} {count}" for name, count in counts.items())
         return lines + [f"affected {sum(counts.values())} {told}"]
 

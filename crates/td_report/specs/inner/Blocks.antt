@@ -1,4 +1,4 @@
--- What a report says of each level, over rows where they lie in memory.
+-- What a report says of each level, over rows in memory.
 use Rattle.std.specs.Prelude.{◌≡◌, ℕ, ◌+◌, ◌<◌, List, Some, count_by, filter, length, map}
 use Rattle.std.specs.Prelude.{slice_get}
 use Rattle.std.specs.List.{flat_map}
@@ -17,11 +17,11 @@ pub record LevelRows : Type 0 where
   pub level : Level
   pub rows : List AffectedRow
 
--- those of a block
+-- the level and the rows of a block
 abbrev pub told_of : Block → LevelRows
 told_of b = record { level = b.level; rows = map seen b.items.now }
 
--- a level with those of the affected rows that stand there
+-- a level with the affected rows at it
 abbrev pub told_at : List AffectedRow → Level → LevelRows
 told_at rows level = record { level = level; rows = filter (stands_at level) rows }
 
@@ -29,7 +29,7 @@ told_at rows level = record { level = level; rows = filter (stands_at level) row
 abbrev pub AreBlocks : ℕ → List AffectedRow → List Block → Type 0
 AreBlocks depth rows bs = map told_of bs ≡ map (told_at rows) (levels depth)
 
--- the texts of blocks, one behind the other, where these are the lines of a level with its rows
+-- the texts of blocks, one after the other, if these are the lines of a level with its rows
 abbrev pub texts_of : (Level → List AffectedRow → List (List ℕ)) → List Block → List ℕ
 texts_of lines bs = flat_map (λ b. text_of (lines b.level (map seen b.items.now))) bs
 
@@ -38,13 +38,13 @@ abbrev pub installed_at : List AffectedRow → Level → ℕ
 installed_at rows level = count_by report.is_installed (filter (stands_at level) rows)
 
 -- the counts of Installed rows by group:
--- that of level k has number k - 1, and that of what is cyclic is the last
+-- level k has number k - 1, and what is cyclic is the last
 pub record AreInstalledCounts (depth : ℕ) (rows : List AffectedRow) (counts : List ℕ)
     : Type 0 where
   pub of_level : (n : ℕ) → n < depth → slice_get counts n ≡ Some (installed_at rows (At (n + 1)))
   pub of_cyclic : slice_get counts depth ≡ Some (installed_at rows Cyclic)
 
--- the same of rows in lists
+-- the counts of Installed rows by group are those of rows in lists
 pub record AreGroupedCounts (grouped : Grouped) (counts : List ℕ) : Type 0 where
   pub of_level : (n : ℕ) → n < length grouped.levels.items
       → slice_get counts n ≡ Some (count_by is_installed (list_at grouped.levels.items n))

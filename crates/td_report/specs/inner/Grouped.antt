@@ -1,4 +1,4 @@
--- Affected rows in lists, by where their sources stand.
+-- Affected rows in lists, by the levels of their sources.
 use Rattle.std.specs.Prelude.{◌≡◌, ℕ, ◌+◌, ◌<◌, [], List, length, filter, map, slice_index_or}
 use Rattle.std.specs.Global.{Vec}
 use Rattle.td_waves.specs.declared.level.Level.TheVariants.{At, Cyclic}

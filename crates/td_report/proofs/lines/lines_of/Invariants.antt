@@ -5,4 +5,4 @@ use Rattle.td_report.proofs.lines.lines_of.Given as goal
 
 -- the lines so far
 abbrev pub invariant-loop-item : goal.invariant-loop-item
-invariant-loop-item l = string_bytes l.text ≡ lines_text (take l.item-index l.items)
+invariant-loop-item l = string_bytes l.text ≡ lines_text l.fn.shown (take l.item-index l.items)

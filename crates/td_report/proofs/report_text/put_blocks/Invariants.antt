@@ -6,5 +6,5 @@ use Rattle.td_report.proofs.report_text.put_blocks.Given as goal
 
 -- the blocks so far
 abbrev pub invariant-loop-block : goal.invariant-loop-block
-invariant-loop-block g l = string_bytes l.out ≡ string_bytes l.fn.out ++ texts_of block_of
-    (take l.block-index l.blocks)
+invariant-loop-block g l = string_bytes l.out ≡ string_bytes l.fn.out ++ texts_of
+    (block_of (g.L.Lines.shown l.fn.lines)) (take l.block-index l.blocks)

@@ -13,7 +13,8 @@ blocks-requires g c = counts-grouped c.args.depth c.args.items.now c.in_ok-group
 
 pub returns : goal.returns
 returns g c = on_ok_weaker c.put_blocks.result
-    (blocks-put block_of c.args.depth (map seen c.args.items.now) c.in_ok-blocks.blocks.items
+    (blocks-put (block_of (g.L.Lines.shown c.args.lines.now)) c.args.depth
+    (map seen c.args.items.now) c.in_ok-blocks.blocks.items
     c.deref.result.now (string_bytes c.args.out.now) (string_bytes c.put_blocks.new.out)
     (c.in_ok-blocks.ensures c.args.depth c.args.items.now c.in_ok-grouped.ensures)
     c.deref.ensures.value)

@@ -1,6 +1,6 @@
 -- `tool`: its clauses.
 use Rattle.std.proofs.Common.{None, IfOk, codes, map, string_bytes, sym, subst}
-use Rattle.td_report.specs.Transition.{IsReport, IsWaves}
+use Rattle.td_report.specs.Transition.{IsReportOf, IsWaves}
 use Rattle.td_words.specs.CommandLine.{AskFor, AskForCheck, AskForRun, AskForTrack, AskForWaves}
 use Rattle.td_tool.specs.Checks.{Checks, files_of}
 use Rattle.td_tool.specs.Ends.{Ends}
@@ -42,7 +42,7 @@ pub returns-in-Ok-clause-track : goal.returns-in-Ok-clause-track
 returns-in-Ok-clause-track g c = λ w.
     of_given (λ l. AskForTrack l w) (λ b. Ran
     (DueTo (g.R.Reader.can_fail c.args.reader.now) (g.W.Writer.can_fail c.args.output.now)
-    (EndsSo IsReport (files_asked (g.T.Texts.bytes c.args.texts.now)
+    (EndsSo (IsReportOf w.shown) (files_asked (g.T.Texts.bytes c.args.texts.now)
     (g.T.Texts.can_fail c.args.texts.now) w) (g.W.Write.contents c.args.output.now)
     (g.W.Write.contents c.answer.new.output)))
     b (known_at (g.T.Texts.bytes c.args.texts.now) (track_paths w))

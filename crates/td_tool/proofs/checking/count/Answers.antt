@@ -1,4 +1,4 @@
--- `count`: a write fails where a line is written alone.
+-- `count`: a write fails only if there is a line to write.
 use Rattle.std.proofs.Common.{◌∙◌, sym}
 use Rattle.td_tool.proofs.Dues.{file_unwritten, line_unwritten}
 use Rattle.td_tool.proofs.checking.count.Goals as goal

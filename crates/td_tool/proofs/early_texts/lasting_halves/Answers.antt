@@ -1,4 +1,4 @@
--- `lasting_halves`: the two texts are the file's, one behind the other.
+-- `lasting_halves`: the two texts are the file's, one after the other.
 use Rattle.std.proofs.Common.{◌≡◌, ◌++◌, ◌∙◌, IfSome, ap, string_bytes, subst, sym}
 use Rattle.std.proofs.lemmas.Str.{IsUtf8-append, IsUtf8-string_bytes}
 use Rattle.td_tool.specs.Checks.{IsTextOf}

@@ -1,4 +1,4 @@
--- `explanation`: the clause `line` where a file isn't read.
+-- `explanation`: the clause `line` if a file isn't read.
 use Rattle.std.proofs.Common.{IfOk, IfSome, string_bytes, sym, subst}
 use Rattle.td_tool.specs.Explained.{Explains, known_of_request}
 use Rattle.td_tool.proofs.Explanations.{own_cause_explains}

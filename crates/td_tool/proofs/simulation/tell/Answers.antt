@@ -1,4 +1,4 @@
--- `tell`: where nothing is told no stream has failed.
+-- `tell`: if there is no simulation to write, no stream has failed.
 use Rattle.std.proofs.Common.{false, subst, sym}
 use Rattle.td_tool.specs.Streams.{IsDue}
 use Rattle.td_tool.proofs.Dues.{simulation_due}

@@ -1,8 +1,8 @@
 -- `track`: the clause `shape`.
 use Rattle.std.proofs.Common.{ap, ◌≡◌, ◌∙◌, codes, rules}
 use Rattle.std.proofs.lemmas.Result.{IfOk-weaker}
-use Rattle.clap.specs.Simple.{app_of, new_app, shape_of, with_rule}
-use Rattle.td_words.specs.CommandLine.{option_of, track_shape, with_explanation, with_tracker_rules}
+use Rattle.clap.specs.Simple.{app_of, new_app, shape_of}
+use Rattle.td_words.specs.CommandLine.{track_shape, with_explanation, with_report_rules}
 use Rattle.td_words.proofs.command.track.Goals as goal
 
 pub returns-clause-shape : goal.returns-clause-shape
@@ -10,8 +10,5 @@ returns-clause-shape c =
     let start : app_of c.after_help-command.result ≡ new_app (codes "track") = search rules in
     IfOk-weaker c.explained.result _ (λ r. shape_of r ≡ track_shape)
     (λ r e. ap (λ a. a.top)
-    (e ∙ ap with_explanation
-    (c.in_ok-command-3.ensures.app ∙ ap (λ a. with_rule a (option_of (codes "chunk")))
-    (c.in_ok-command-2.ensures.app ∙ ap (λ a. with_rule a (option_of (codes "state")))
-    (c.in_ok-command.ensures.app ∙ ap with_tracker_rules start)))))
+    (e ∙ ap with_explanation (c.in_ok-command.ensures.app ∙ ap with_report_rules start)))
     c.explained.ensures.app

@@ -1,12 +1,13 @@
 -- `read_words`: its clauses.
-use Rattle.td_words.specs.Asked.{IsUsage, builders_said, chunk_said}
+use Rattle.td_words.specs.Asked.{IsUsage, builders_said, track_said}
 use Rattle.td_words.proofs.Asking.{memory_said}
 use Rattle.std.proofs.Common.{◌≡◌, map, string_bytes, [], sym, refl, ap, subst, IfOk, ◌∙◌}
+use Rattle.std.proofs.Common.{IfErr}
 use Rattle.std.proofs.lemmas.Result.{IfOk-weaker}
 use Rattle.clap.specs.Faults.{fault_of}
 use Rattle.clap.specs.Simple.{subcommand_rows_of}
 use Rattle.td_words.specs.CommandLine.{HasFiles, HasRun, HasTrack, HasTracker, is_explained}
-use Rattle.td_words.specs.CommandLine.{name_in, rows_in}
+use Rattle.td_words.specs.CommandLine.{name_in, options_of, rows_in}
 use Rattle.td_words.specs.Asked.{Asks, IsGivenBy, check_of, report_of, request_words, run_of}
 use Rattle.td_words.specs.Asked.{waves_of}
 use Rattle.td_words.specs.declared.request.Request.TheVariants.{Simulate}
@@ -121,10 +122,11 @@ returns-in-Ok-clause-track_said c archs packages sources tracker asking has =
     let m = c.in-Ok.matches in
     let texts = map string_bytes c.args.words.now in
     let rows = rows_are_asked _ m texts c.in_ok-command.ensures c.in-Ok.ensures.matches in
-    holds_of_call (λ q. Unit {0}) (λ e. IsUsage e chunk_said) c.request_in.result
-    c.is_explained_in.result c.call_of.result c.call_of.ensures
+    holds_of_call (λ q. Unit {0}) (λ e. IsUsage e (track_said (options_of texts)))
+    c.request_in.result c.is_explained_in.result c.call_of.result c.call_of.ensures
+    (subst (λ o. IfErr c.request_in.result (λ e. IsUsage e (track_said (rows_in o)))) rows
     (c.request_in.ensures.track_said archs packages sources tracker (ap name_in rows ∙ asking.1)
-    (subst (λ o. HasTracker (rows_in o) archs packages sources tracker) (sym rows) has))
+    (subst (λ o. HasTracker (rows_in o) archs packages sources tracker) (sym rows) has)))
 
 pub returns-in-Err-clause-track_said : goal.returns-in-Err-clause-track_said
 returns-in-Err-clause-track_said c archs packages sources tracker asking has =

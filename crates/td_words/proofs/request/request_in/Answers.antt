@@ -1,6 +1,7 @@
 -- `request_in`: its clauses.
-use Rattle.std.proofs.Common.{subst}
+use Rattle.std.proofs.Common.{IfErr, subst, sym}
 use Rattle.td_words.specs.CommandLine.{HasFiles, HasRun, HasTrack, HasTracker}
+use Rattle.td_words.specs.Asked.{IsUsage, track_said}
 use Rattle.td_words.proofs.Asking.{rows_of_matches}
 use Rattle.td_words.proofs.request.request_in.Goals as goal
 
@@ -34,10 +35,11 @@ returns-in-Some-5-clause-run c w named has =
 
 pub returns-in-Some-3-clause-track_said : goal.returns-in-Some-3-clause-track_said
 returns-in-Some-3-clause-track_said c archs packages sources tracker named has =
-    c.track_in.ensures.said archs packages sources tracker
-    (subst (λ options. HasTracker options archs packages sources tracker)
-    (rows_of_matches c.args.matches.now c.subcommand.result _ c.in-Some.is
-    c.subcommand.ensures.rows) has)
+    let rows = rows_of_matches c.args.matches.now c.subcommand.result _ c.in-Some.is
+    c.subcommand.ensures.rows in
+    subst (λ options. IfErr c.track_in.result (λ e. IsUsage e (track_said options))) (sym rows)
+    (c.track_in.ensures.said archs packages sources tracker
+    (subst (λ options. HasTracker options archs packages sources tracker) rows has))
 
 pub returns-in-Some-5-clause-run_said : goal.returns-in-Some-5-clause-run_said
 returns-in-Some-5-clause-run_said c archs packages sources named has =

@@ -1,4 +1,4 @@
--- `waves_in`: the clause `waves`, where memory runs out for the files.
+-- `waves_in`: the clause `waves`, if memory runs out for the files.
 use Rattle.std.proofs.lemmas.Result.{err_from_is_err_and}
 use Rattle.td_words.proofs.request.waves_in.Goals as goal
 

@@ -1,4 +1,4 @@
--- `run_in`: the clauses `run` and `said`, where memory runs out for the files.
+-- `run_in`: the clauses `run` and `said`, if memory runs out for the files.
 use Rattle.std.proofs.lemmas.Result.{err_from_is_err_and}
 use Rattle.td_words.proofs.Asking.{memory_said}
 use Rattle.td_words.proofs.run_words.run_in.Goals as goal

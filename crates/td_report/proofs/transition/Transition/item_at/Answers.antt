@@ -1,4 +1,4 @@
--- `Transition::item_at`: what it answers where the source stands at no level, and else.
+-- `Transition::item_at`: what it answers if the source is at no level, and else.
 use Rattle.std.proofs.Common.{None, option_map, sym, ap, ◌∙◌}
 use Rattle.std.specs.Option.{option_map_or}
 use Rattle.td_report.specs.Transition.{affected_row}

@@ -1,7 +1,7 @@
--- `track_in`: the clause `track`, where memory runs out for the files.
+-- `track_in`: the clause `track`, if memory runs out for the files.
 use Rattle.td_words.proofs.Asking.{memory_said}
 use Rattle.std.proofs.lemmas.Result.{err_from_is_err_and}
-use Rattle.td_words.proofs.request.track_in.Goals as goal
+use Rattle.td_words.proofs.track_words.track_in.Goals as goal
 
 pub returns-in_err-files-clause-track : goal.returns-in_err-files-clause-track
 returns-in_err-files-clause-track c w has =
