@@ -29,14 +29,14 @@ unread_lacks t line none lacks =
     ap row_line_at lacks.spelled ∙ row_exact.again lacks.row lacks.fits in
     let bad : None ≡ Some lacks.row = none ∙ read in cc
 
--- one that is read is that of its row
+-- a line that is read lacks its row if no row has its key
 pub read_lacks : (t : Table) (line : List ℕ) (p : Key × Row) → Some p ≡ row_line_at line
     → row_of t p.0 ≡ None → LacksRow t line
 read_lacks t line p is missing =
     let found = row_exact.found line p (sym is) in
     record { row = p; spelled = found.0; fits = found.1; missing = missing }
 
--- and of no other
+-- a line that is read and lacks its row has a key that no row has
 pub lacks_read : (t : Table) (line : List ℕ) (p : Key × Row) → Some p ≡ row_line_at line
     → LacksRow t line → row_of t p.0 ≡ None
 lacks_read t line p is lacks =
@@ -62,7 +62,7 @@ found_at (p ∷ t) k (suc n) row at none =
       | false ↦ λ e. found_at t k n row at e
     ] none
 
--- whether a line that is read is of such a row, by the number of its key's row
+-- whether a line that is read lacks its row, by the number of its key's row
 pub found_lacks : (t : Table) (line : List ℕ) (p : Key × Row) (o : Option ℕ) (b : Bool)
     → Some p ≡ row_line_at line → IfSome o (IsAt t p.0) → IfNone o (row_of t p.0 ≡ None)
     → is_some o ≡ not b → IsTrue b ↔ LacksRow t line
@@ -88,7 +88,7 @@ empty_lacks t line empty lacks =
     row_line_long : (p : Key × Row) → length (row_line p) ≡ 0 → ⊥
     row_line_long p e = behind _ _ 32 e
 
--- whether a line is of such a row
+-- whether a line lacks its row
 pub decided : (t : Table) (line : List ℕ) → LacksRow t line ⊎ (LacksRow t line → ⊥)
 decided t line = by (row_line_at line) refl
   where
@@ -103,7 +103,7 @@ decided t line = by (row_line_at line) refl
 
 -- ---- lines
 
--- the first such line, of lines that are counted from this number on
+-- the first line that lacks its row, of lines that are counted from this number on
 abbrev pub IsFirstFrom : Table → ℕ → List (List ℕ) → ℕ → Type 0
 IsFirstFrom t start [] number = ⊥
 IsFirstFrom t start (line ∷ lines) number =
@@ -158,7 +158,7 @@ first_lacking_of t lines number first =
       others = p.others;
     }
 
--- ---- a state file has such a line where one of its rows has no place
+-- ---- a state file has such a line if one of its rows has no place
 
 -- a key that is missing, and the row that it has
 missing_row : (t others : Table) (k : Key) → first_missing t others ≡ Some k

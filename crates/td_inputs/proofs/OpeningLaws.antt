@@ -1,5 +1,6 @@
 -- What is read of the texts one after the other, and for what none is opened.
 use Rattle.std.proofs.Common.{◌≡◌, ℕ, List, [], length, Option, Some, None}
+use Rattle.std.proofs.Common.{Result, Ok, Err, IfOk, IfErr, MatchResult}
 use Rattle.std.proofs.Common.{refl, sym, ap, subst, ◌∙◌}
 use Rattle.td_text.specs.Lines.{lines_of}
 use Rattle.td_relation.specs.Arch.{ArchWords}
@@ -11,7 +12,7 @@ use Rattle.td_rows.specs.Overlay.{first_missing}
 use Rattle.td_rows.specs.Table.{Table}
 use Rattle.td_rows.proofs.Sorting.{table-same}
 use Rattle.td_core.specs.Phases.{NoneBuilt}
-use Rattle.td_indices.specs.Archive.{Contents, IsArchive}
+use Rattle.td_indices.specs.Archive.{Contents, IsArchive, IsRead}
 use Rattle.td_indices.specs.Archive as archive_file
 use Rattle.td_indices.specs.declared.archive_fault.ArchiveFault.{ArchiveFault}
 use Rattle.td_indices.specs.declared.archive_fault.ArchiveFault.TheVariants as archive
@@ -58,6 +59,24 @@ stops_at_table archs e f fault only is = record {
       (only readable.0.table
       (subst (λ l. IsTable (lines_of l) readable.0.table) same readable.1.is_table));
 }
+
+-- a table that was read is the only one of its text
+pub table_read : {A : Type 0} (archs : List ℕ) (view : A → List ArchWords)
+    (read : Result A ArchsFault) → IfOk read (λ a. IsTable (lines_of archs) (view a))
+    → ((t : List ArchWords) → IsTable (lines_of archs) t
+    → MatchResult read (λ a. view a ≡ t) (λ e. e ≡ table.NoMemory))
+    → IfOk read (λ a. IsOnlyTable (lines_of archs) (view a))
+table_read archs view (Ok a) found only = record { is = found; only = only }
+table_read archs view (Err e) found only = tt
+
+-- a fault of a table stops its text
+pub table_unread : {A : Type 0} (archs : List ℕ) (view : A → List ArchWords)
+    (read : Result A ArchsFault) → IfErr read (table_file.FaultOf (lines_of archs))
+    → ((t : List ArchWords) → IsTable (lines_of archs) t
+    → MatchResult read (λ a. view a ≡ t) (λ e. e ≡ table.NoMemory))
+    → IfErr read (λ e. StopsAtTable archs (of_form (form.Table e)))
+table_unread archs view (Ok a) fault only = tt
+table_unread archs view (Err e) fault only = stops_at_table archs e _ fault only refl
 
 -- ---- 2. the indices
 
@@ -121,6 +140,19 @@ stops_at_indices t p s e f fault only is = record {
       (with_table x t readable.0 archs readable.1)));
 }
 
+-- an archive that was read is that of the texts
+pub archive_read : (t : List ArchWords) (p s : List ℕ) (read : Result Contents ArchiveFault)
+    → IsRead t (lines_of p) (lines_of s) read → IfOk read (IsArchiveAt t p s)
+archive_read t p s (Ok c) is = is_archive_at t p s c is.found is.only
+archive_read t p s (Err e) is = tt
+
+-- a fault of the indices stops the texts
+pub archive_unread : (t : List ArchWords) (p s : List ℕ) (read : Result Contents ArchiveFault)
+    → IsRead t (lines_of p) (lines_of s) read
+    → IfErr read (λ e. StopsAtIndices t p s (of_form (form.Archive e)))
+archive_unread t p s (Ok c) is = tt
+archive_unread t p s (Err e) is = stops_at_indices t p s e _ is.fault is.only refl
+
 -- ---- 3. the rows
 
 -- an archive that texts are has opening rows
@@ -144,7 +176,7 @@ state_refused c rows text opened (form.NoSuchRow n) is = (rows, opened, is)
 state_refused c rows text opened (form.Tracker e) is = absurd is
 state_refused c rows text opened (form.Journal e) is = absurd is
 
--- what is so of each fault of a text is so where memory may have run out
+-- what holds of each fault of a text holds also if memory may have run out
 pub of_each : (P Q : FormFault → Type 0) → ((i : FormFault) → P i → Q i) → (e : OpenFault)
     → OrMemory P e → OrMemory Q e
 of_each P Q each (Refused i) h = each i h
@@ -183,10 +215,28 @@ stops_at_rows c rows state text e opened is refused only =
           );
     })
 
+-- rows that a state file was put over are those of the archive with it
+pub rows_put : (c : Contents) (rows : Table) (state : Option (List ℕ)) (text : List ℕ)
+    (put : Result Table OpenFault) → AreOpened c rows → state ≡ Some text
+    → IfOk put (IsReplacedIn rows text) → IfOk put NoneBuilt
+    → IfOk put (λ new. AreGivenRows c state (Some new))
+rows_put c rows state text (Ok new) opened is replaced idle =
+    replaced_rows c rows state text new opened is replaced idle
+rows_put c rows state text (Err e) opened is replaced idle = tt
+
+-- a fault of a state file stops the texts
+pub rows_unput : (c : Contents) (rows : Table) (state : Option (List ℕ)) (text : List ℕ)
+    (put : Result Table OpenFault) → AreOpened c rows → state ≡ Some text
+    → IfErr put (OrMemory (IsRefusedIn rows text))
+    → IfErr put (λ e. CanReplace rows text → e ≡ NoMemory) → IfErr put (StopsAtRows c state)
+rows_unput c rows state text (Ok new) opened is refused only = tt
+rows_unput c rows state text (Err e) opened is refused only =
+    stops_at_rows c rows state text e opened is refused only
+
 pub memory_at_rows : (c : Contents) (state : Option (List ℕ)) → StopsAtRows c state NoMemory
 memory_at_rows c state = record { refused = tt; only = λ rows are. refl }
 
--- the rows that are given are those of the archive; where none are, it has some
+-- the rows that are given are those of the archive; if none are, it has some
 pub rows_given : (x : Texts) (c : Contents) (state : Option (List ℕ)) (rows : Option Table)
     → IsArchiveOf x c → AreGivenRows c state rows → (t : Table) × AreRowsOf c state t
 rows_given x c None None is given = rows_there x c is
@@ -221,13 +271,24 @@ pub stops_at_tracker : (given : Option (List ℕ)) (text : List ℕ) (e : Tracke
     → f ≡ of_form (form.Tracker e) → StopsAtTracker given f
 stops_at_tracker given text e f same fault only is = record {
   refused = λ x c rows its archive are.
-      subst (IsUnopened x) (sym is) (tracker_refused x c rows text archive are (its ∙ same) e fault);
+      subst (IsUnopened x) (sym is)
+      (tracker_refused x c rows text archive are (its ∙ same) e fault);
   only = λ x its readable.
       let there = subst IsTrackerIfGiven (its ∙ same) readable.2.tracker in
       subst (λ (o : Option (List ℕ)). OrMemory (IsPatternOf o) f) (sym same)
       (subst (OrMemory (IsPatternOf (Some text))) (sym is)
       (pattern_refused text e (only there.0 there.1)));
 }
+
+-- a fault of a tracker stops the texts
+pub tracker_unread : {A : Type 0} (given : Option (List ℕ)) (text : List ℕ)
+    (read : Result A TrackerFault) → given ≡ Some text → IfErr read (FaultOf text)
+    → ((t : Tracking) → IsTracker text t
+    → IfErr read (IsPatternFault (length text) (log_in (said_in text))))
+    → IfErr read (λ e. StopsAtTracker given (of_form (form.Tracker e)))
+tracker_unread given text (Ok a) same fault only = tt
+tracker_unread given text (Err e) same fault only =
+    stops_at_tracker given text e _ same fault only refl
 
 -- ---- 5. what stops texts that are read so far
 

@@ -47,7 +47,7 @@ pub missing_key : {A : Type 0} (rows given : Table) (r : Result A OverlayError) 
     → (k : Key) × (first_missing rows given ≡ Some k)
 missing_key rows given r (NoSuchRow k) is both = (k, (both k).0 is)
 
--- rows that can be put in their places are
+-- rows that can be put over others all have a place
 missing_stops : (rows given : Table) (t : List ℕ) (k : Key) → first_missing rows given ≡ Some k
     → ((u : Table) → IsStateFile (lines_of t) u → given ≡ u) → CanReplace rows t → ⊥
 missing_stops rows given t k missing same can =

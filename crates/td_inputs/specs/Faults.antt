@@ -15,7 +15,7 @@ use Rattle.td_inputs.specs.declared.form_fault.FormFault.{FormFault}
 use Rattle.td_inputs.specs.declared.form_fault.FormFault.TheVariants.{Table, Archive, State}
 use Rattle.td_inputs.specs.declared.form_fault.FormFault.TheVariants.{NoSuchRow, Tracker, Journal}
 
--- the words in front of a text's fault
+-- the words before a text's fault
 abbrev pub label_of : Role → List ℕ
 label_of role.Input = codes "input: "
 label_of role.Archs = codes "archs: "
@@ -31,7 +31,7 @@ abbrev pub role_of_index : IndexFile → Role
 role_of_index file.Packages = role.Packages
 role_of_index file.Sources = role.Sources
 
--- the index that has the fault; what is no single file's is told of Sources
+-- the index that has the fault; what is no single file's counts as that of Sources
 abbrev pub role_of_archive : ArchiveFault → Role
 role_of_archive (archive.Stanza f e) = role_of_index f
 role_of_archive (archive.MissingField f number field) = role_of_index f

@@ -46,7 +46,7 @@ pub record Texts : Type 0 where
   pub journal : Option (List ℕ)
   pub suite : List ℕ
 
--- these texts, if no journal is gone on with
+-- these texts without the journal
 abbrev pub without_journal : Texts → Texts
 without_journal x = record {
   archs = x.archs;
@@ -68,7 +68,7 @@ pub record AreOpened (c : Contents) (rows : Table) : Type 0 where
   pub same : (k : Key) → row_of rows k ≡ opening_row c k
   pub rising : ascending (keys_of rows) ≡ true
 
--- the rows with which a desk opens, with those of a state file in the place of the ones of their
+-- the rows with which a desk opens, with those of a state file instead of the ones with their
 -- keys, each of which has to be there
 pub record AreReplaced (c : Contents) (text : List ℕ) (rows : Table) : Type 0 where
   pub opened : Table
@@ -103,7 +103,7 @@ IsNoState None e = ⊥
 IsNoState (Some text) state.NoMemory = ⊥
 IsNoState (Some text) e = state_file.FaultOf (lines_of text) e
 
--- it is one, and the first line of a row that the archive hasn't has this number
+-- a text is a state file, and its first line of a row that the archive hasn't has this number
 abbrev pub LacksRowAt : Contents → Option (List ℕ) → ℕ → Type 0
 LacksRowAt c None number = ⊥
 LacksRowAt c (Some text) number =
@@ -123,7 +123,7 @@ IsNoJournal rows None e = ⊥
 IsNoJournal rows (Some text) journal.NoMemory = ⊥
 IsNoJournal rows (Some text) e = journal_file.FaultOf rows text e
 
--- a tracker, where one is given
+-- a tracker, if one is given
 abbrev pub IsTrackerIfGiven : Option (List ℕ) → Type 0
 IsTrackerIfGiven None = Unit {0}
 IsTrackerIfGiven (Some text) = (t : Tracking) × IsTracker text t
@@ -155,19 +155,19 @@ IsRefused x (fault.Journal e) =
 
 -- ---- 3. what can't be refused
 
--- a journal over these rows, where one is given
+-- a journal over these rows, if one is given
 abbrev pub IsJournalIfGiven : Table → Option (List ℕ) → Type 0
 IsJournalIfGiven rows None = Unit {0}
 IsJournalIfGiven rows (Some text) = (entries : List Marked) × IsJournalText rows text entries
 
--- rows for an archive, and a tracker and a journal over them where they are given
+-- rows for an archive, and a tracker and a journal over them if they are given
 pub record IsReadableOver (c : Contents) (x : Texts) : Type 0 where
   pub rows : Table
   pub are_rows : AreRowsOf c x.state rows
   pub tracker : IsTrackerIfGiven x.tracker
   pub journal : IsJournalIfGiven rows x.journal
 
--- the texts are an archive, and what stands over it can be read
+-- the texts are an archive, and what is given over it can be read
 abbrev pub AreReadable : Texts → Type 0
 AreReadable x = (c : Contents) × IsArchiveOf x c × IsReadableOver c x
 

@@ -13,7 +13,7 @@ pub record LacksRow (opened : Table) (line : List ℕ) : Type 0 where
   pub fits : RowFits row
   pub missing : row_of opened row.0 ≡ None
 
--- the first such line has this number, from 1 on
+-- the first line that lacks its row has this number, from 1 on
 pub record IsFirstLacking (opened : Table) (lines : List (List ℕ)) (number : ℕ) : Type 0 where
   pub before : List (List ℕ)
   pub line : List ℕ

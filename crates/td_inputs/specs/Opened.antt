@@ -33,15 +33,15 @@ texts_of x = record {
   suite = [];
 }
 
--- where a state file is given, its rows in the place of those with which a desk opens over the
--- archive, and no builder has one of them
+-- if a state file is given, its rows instead of those with which a desk opens over the archive, and
+-- no builder has one of them
 abbrev pub AreGivenRows : Contents → Option (List ℕ) → Option Table → Type 0
 AreGivenRows c None None = Unit {0}
 AreGivenRows c None (Some rows) = ⊥
 AreGivenRows c (Some text) None = ⊥
 AreGivenRows c (Some text) (Some rows) = AreReplaced c text rows × NoneBuilt rows
 
--- the tracker of a text, with the text, where one is given
+-- the tracker of a text, with the text, if one is given
 abbrev pub IsGivenTracker : Option (List ℕ) → Option GivenTracker → Type 0
 IsGivenTracker None None = Unit {0}
 IsGivenTracker None (Some t) = ⊥
@@ -55,9 +55,9 @@ pub record IsOpened (x : Texts) (o : Opened) : Type 0 where
   pub rows : AreGivenRows o.archive.now x.state o.rows
   pub tracker : IsGivenTracker x.tracker (option_copied o.tracker)
 
--- ---- 2. why nothing is
+-- ---- 2. why nothing is lent
 
--- what a fault of a text is answered as: want of memory is no fault of the text
+-- what a fault of a text is answered as: missing memory is no fault of the text
 abbrev pub of_form : FormFault → OpenFault
 of_form (fault.Table table.NoMemory) = NoMemory
 of_form (fault.Archive archive.NoMemory) = NoMemory
@@ -66,7 +66,7 @@ of_form (fault.Tracker tracker.NoMemory) = NoMemory
 of_form (fault.Journal journal.NoMemory) = NoMemory
 of_form e = Refused e
 
--- a text has such a fault, or memory runs out
+-- a text has a fault of this kind, or memory runs out
 abbrev pub OrMemory : (FormFault → Type 0) → OpenFault → Type 0
 OrMemory Has (Refused e) = Has e
 OrMemory Has NoMemory = Unit {0}

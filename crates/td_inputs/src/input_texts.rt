@@ -10,7 +10,7 @@ pub struct InputTexts<'i> {
     pub archs: &'i str,
     pub packages: IndexText<'i>,
     pub sources: IndexText<'i>,
-    /// Rows that are put in the place of those with which the archive opens.
+    /// Rows to use instead of those with which the archive opens.
     pub state: Option<&'i str>,
     pub tracker: Option<&'i str>,
     ghost within: { length archs.now < 2 ^ 63 },

@@ -17,7 +17,7 @@ pub enum OpenFault {
     NoMemory,
 }
 
-/// What a fault of a text is answered as. Want of memory is no fault of the text.
+/// What a fault of a text is answered as. Missing memory is no fault of the text.
 pub fn fault_of(fault: FormFault) -> OpenFault
     ensures { result ≡ of_form fault }
 {

@@ -15,8 +15,8 @@ pub struct GivenTracker<'q> {
 #[derive(Drop)]
 pub struct Opened<'o, 't, 'a, 'g, 'q> {
     pub archive: &'o Archive<'t, 'a>,
-    /// The rows of a state file, where one is given, in the place of those with which a desk opens
-    /// over the archive. Where none is, the archive says the rows (`Archive::opening_rows`).
+    /// The rows of a state file, if one is given, instead of those with which a desk opens over the
+    /// archive. If none is, the archive says the rows (`Archive::opening_rows`).
     pub rows: Option<Rows>,
     pub tracker: Option<&'g GivenTracker<'q>>,
 }

@@ -1,10 +1,10 @@
 //! The opening of texts: each is read in its order, and what they say is lent.
-ghost use Rattle.std.specs.Prelude.{◌≡◌, ◌<◌, ◌^◌, IfOk, IfErr, length, option_map};
+ghost use Rattle.std.specs.Prelude.{◌≡◌, ◌<◌, ◌^◌, Ok, Err, Some, IfOk, IfErr, length, option_map};
 ghost use Rattle.td_text.specs.Lines.{lines_of};
 ghost use Rattle.td_relation.specs.TableView.{table};
 ghost use Rattle.td_inputs.specs.Inputs.{AreReadable};
 ghost use Rattle.td_inputs.specs.Opened.{AreGivenRows, IsGivenTracker, IsOpened, IsUnopened};
-ghost use Rattle.td_inputs.specs.Opened.{MayFail, texts_of};
+ghost use Rattle.td_inputs.specs.Opened.{MayFail, of_form, texts_of};
 ghost use Rattle.td_inputs.specs.inner.Reading.{IsArchiveAt, IsOnlyTable, IsOpenedOver, Stops};
 ghost use Rattle.td_inputs.specs.inner.Reading.{StopsAtIndices, StopsAtRows, StopsAtTable};
 ghost use Rattle.td_inputs.specs.inner.Reading.{StopsAtTracker, StopsOver};
@@ -18,10 +18,21 @@ use crate::state_over::put_state_over;
 use std::alloc::{AllocError, Global};
 use std::mem;
 use std::thread::Threads;
-use td_indices::{Archive, IndexText};
-use td_query::Tracker;
-use td_relation::Archs;
+use td_indices::{Archive, ArchiveFault, IndexText};
+use td_query::{Tracker, TrackerFault};
+use td_relation::{Archs, ArchsFault};
 use td_rows::Rows;
+
+// The table that was read, or its fault.
+fn table_of(read: Result<Archs<'_>, ArchsFault>) -> Result<Archs<'_>, OpenFault>
+    ensures read { IfOk read.entry (λ archs. result ≡ Ok archs) }
+    ensures fault { IfErr read.entry (λ fault. result ≡ Err (of_form (FormFault.Table fault))) }
+{
+    match read {
+        Ok(archs) => Ok(archs),
+        Err(fault) => Err(fault_of(FormFault::Table(fault))),
+    }
+}
 
 // The table of architectures.
 fn read_table(alloc: Global, text: &str) -> Result<Archs<'_>, OpenFault>
@@ -29,9 +40,20 @@ fn read_table(alloc: Global, text: &str) -> Result<Archs<'_>, OpenFault>
     ensures table { IfOk result (λ archs. IsOnlyTable (lines_of text.now) (table archs)) }
     ensures stops { IfErr result (StopsAtTable text.now) }
 {
-    match Archs::read(alloc, text) {
-        Ok(archs) => Ok(archs),
-        Err(fault) => Err(fault_of(FormFault::Table(fault))),
+    let read = Archs::read(alloc, text);
+    table_of(read)
+}
+
+// The archive that was read, or the fault of its indices.
+fn archive_of<'t, 'a>(
+    read: Result<Archive<'t, 'a>, ArchiveFault>,
+) -> Result<Archive<'t, 'a>, OpenFault>
+    ensures read { IfOk read.entry (λ archive. result ≡ Ok archive) }
+    ensures fault { IfErr read.entry (λ fault. result ≡ Err (of_form (FormFault.Archive fault))) }
+{
+    match read {
+        Ok(archive) => Ok(archive),
+        Err(fault) => Err(fault_of(FormFault::Archive(fault))),
     }
 }
 
@@ -47,13 +69,22 @@ fn read_archive<'t, 'a>(
     ensures stops { IfErr result
         (StopsAtIndices (table archs.now) packages.entry sources.entry) }
 {
-    match Archive::of_texts(rt, alloc, packages, sources, archs) {
-        Ok(archive) => Ok(archive),
-        Err(fault) => Err(fault_of(FormFault::Archive(fault))),
+    let read = Archive::of_texts(rt, alloc, packages, sources, archs);
+    archive_of(read)
+}
+
+// The rows as those of a state file that was given, or its fault.
+fn some_rows(put: Result<Rows, OpenFault>) -> Result<Option<Rows>, OpenFault>
+    ensures put { IfOk put (λ rows. result ≡ Ok (Some rows)) }
+    ensures fault { IfErr put (λ fault. result ≡ Err fault) }
+{
+    match put {
+        Ok(rows) => Ok(Some(rows)),
+        Err(fault) => Err(fault),
     }
 }
 
-// Where a state file is given, its rows in the place of those with which a desk opens.
+// If a state file is given, its rows instead of those with which a desk opens.
 fn given_rows(
     alloc: Global,
     archive: &Archive<'_, '_>,
@@ -73,13 +104,26 @@ fn given_rows(
     };
     // (`len` says that the keys of the rows rise)
     let _rising = rows.len();
-    match put_state_over(alloc, rows, text) {
-        Ok(rows) => Ok(Some(rows)),
-        Err(fault) => Err(fault),
+    let put = put_state_over(alloc, rows, text);
+    some_rows(put)
+}
+
+// The tracker that was read of a text, with the text, or its fault.
+fn tracker_of<'i>(
+    read: Result<Tracker<'i>, TrackerFault>,
+    text: &'i str,
+) -> Result<Option<GivenTracker<'i>>, OpenFault>
+    ensures read { IfOk read.entry (λ tracker.
+        result ≡ Ok (Some (record { tracker = tracker; text = text.entry }))) }
+    ensures fault { IfErr read.entry (λ fault. result ≡ Err (of_form (FormFault.Tracker fault))) }
+{
+    match read {
+        Ok(tracker) => Ok(Some(GivenTracker { tracker, text })),
+        Err(fault) => Err(fault_of(FormFault::Tracker(fault))),
     }
 }
 
-// The tracker of a text, where one is given.
+// The tracker of a text, if one is given.
 fn given_tracker(alloc: Global, text: Option<&str>) -> Result<Option<GivenTracker<'_>>, OpenFault>
     ensures tracker { IfOk result (IsGivenTracker (option_map (λ s. s.now) text.entry)) }
     ensures stops { IfErr result (StopsAtTracker (option_map (λ s. s.now) text.entry)) }
@@ -87,10 +131,8 @@ fn given_tracker(alloc: Global, text: Option<&str>) -> Result<Option<GivenTracke
     let Some(text) = text else {
         return Ok(None);
     };
-    match Tracker::read(alloc, text) {
-        Ok(tracker) => Ok(Some(GivenTracker { tracker, text })),
-        Err(fault) => Err(fault_of(FormFault::Tracker(fault))),
-    }
+    let read = Tracker::read(alloc, text);
+    tracker_of(read, text)
 }
 
 // What `f` makes of the archive, and of what is given over it.

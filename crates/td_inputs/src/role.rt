@@ -13,7 +13,7 @@ pub enum Role {
     Packages,
     /// The Sources index.
     Sources,
-    /// The rows that are put in the place of others.
+    /// The rows that are used instead of others.
     State,
     /// The tracker.
     Tracker,
@@ -24,7 +24,7 @@ pub enum Role {
 }
 
 impl Role {
-    /// What stands in front of a text's fault.
+    /// What is printed before a text's fault.
     pub fn label(self) -> &'static str
         ensures { result.now ≡ label_of self }
     {

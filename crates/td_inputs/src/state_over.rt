@@ -12,7 +12,7 @@ use crate::open_fault::{OpenFault, fault_of};
 use std::alloc::Global;
 use td_rows::{Rows, StateFault, read_state};
 
-// The rows with those that were read of the text in the place of the ones of their keys.
+// The rows with those that were read of the text instead of the ones with their keys.
 fn put_over(mut rows: Rows, text: &str, read: Result<Rows, StateFault>) -> Result<Rows, OpenFault>
     requires { IfOk read (IsStateFile (lines_of text.now)) }
     ensures put { IfOk read (λ given. IsPutOver rows text.now given result) }
@@ -30,7 +30,7 @@ fn put_over(mut rows: Rows, text: &str, read: Result<Rows, StateFault>) -> Resul
     }
 }
 
-/// The rows with those of a state file in the place of the ones of their keys.
+/// The rows with those of a state file instead of the ones with their keys.
 pub fn put_state_over(alloc: Global, rows: Rows, text: &str) -> Result<Rows, OpenFault>
     requires { NoneBuilt rows }
     ensures rows { IfOk result (IsReplacedIn rows text.now) }

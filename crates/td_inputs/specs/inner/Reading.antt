@@ -53,7 +53,7 @@ IsStateRefused c state (fault.NoSuchRow number) = LacksRowAt c state number
 IsStateRefused c state (fault.Tracker e) = ⊥
 IsStateRefused c state (fault.Journal e) = ⊥
 
--- there are no rows, for this: their text is refused, or memory runs out, and that alone where the
+-- there are no rows, for this: their text is refused, or memory runs out, and only that if the
 -- rows can be had
 pub record StopsAtRows (c : Contents) (state : Option (List ℕ)) (e : OpenFault) : Type 0 where
   pub refused : OrMemory (IsStateRefused c state) e

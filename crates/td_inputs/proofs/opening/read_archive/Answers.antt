@@ -1,14 +1,26 @@
 -- `read_archive`: its clauses.
 use Rattle.td_relation.specs.TableView.{table}
-use Rattle.td_inputs.proofs.OpeningLaws.{is_archive_at, stops_at_indices}
+use Rattle.td_inputs.specs.declared.form_fault.FormFault.TheVariants as form
+use Rattle.td_inputs.specs.Opened.{of_form}
+use Rattle.td_inputs.specs.inner.Reading.{IsArchiveAt, StopsAtIndices}
+use Rattle.td_inputs.proofs.Handing.{handed_err, handed_ok}
+use Rattle.td_inputs.proofs.OpeningLaws.{archive_read, archive_unread}
 use Rattle.td_inputs.proofs.opening.read_archive.Goals as goal
 
-pub returns-in-Ok-clause-archive : goal.returns-in-Ok-clause-archive
-returns-in-Ok-clause-archive g c =
-    is_archive_at (table c.args.archs.now) c.args.packages c.args.sources c.in-Ok.archive
-    c.in-Ok.ensures.found c.in-Ok.ensures.only
+pub returns-clause-archive : goal.returns-clause-archive
+returns-clause-archive g c =
+    let t = table c.args.archs.now in
+    handed_ok (λ archive. archive) (λ e. of_form (form.Archive e))
+    (IsArchiveAt t c.args.packages c.args.sources) c.of_texts-read.result c.archive_of.result
+    (c.archive_of.ensures.read, c.archive_of.ensures.fault)
+    (archive_read t c.args.packages c.args.sources c.of_texts-read.result
+    c.of_texts-read.ensures)
 
-pub returns-in-Err-clause-stops : goal.returns-in-Err-clause-stops
-returns-in-Err-clause-stops g c =
-    stops_at_indices (table c.args.archs.now) c.args.packages c.args.sources c.in-Err.fault
-    c.fault_of.result c.in-Err.ensures.fault c.in-Err.ensures.only c.fault_of.ensures
+pub returns-clause-stops : goal.returns-clause-stops
+returns-clause-stops g c =
+    let t = table c.args.archs.now in
+    handed_err (λ archive. archive) (λ e. of_form (form.Archive e))
+    (StopsAtIndices t c.args.packages c.args.sources) c.of_texts-read.result c.archive_of.result
+    (c.archive_of.ensures.read, c.archive_of.ensures.fault)
+    (archive_unread t c.args.packages c.args.sources c.of_texts-read.result
+    c.of_texts-read.ensures)
