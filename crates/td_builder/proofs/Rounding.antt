@@ -43,7 +43,7 @@ claims_more P Q R so a b c (xs, e, p) (ys, f, q) = (
   subst R (sym (claims_append xs ys)) (so (claims_in xs) (claims_in ys) p q),
 )
 
--- what is no claim leaves those before
+-- what is no claim leaves the claims before it
 pub claims_same : (P : List (Option ℕ) → Type 0) (a b c : BuilderModel) → Claims P a b
     → Claims (λ claims. claims ≡ []) b c → Claims P a c
 claims_same P a b c first none =
@@ -70,7 +70,7 @@ claims_early : (c : OutcomeCode) (a b : BuilderModel) → IsEarly c a b
 claims_early c a b (r, held, at) =
     (FinishEarly r c ∷ [], ap (λ (s : BuilderModel). s.builder.tried) at, refl)
 
--- nor does one that is refused
+-- the end of a build that is refused claims nothing
 pub claims_refused : (breaks_off : BuilderModel → Outcome → Type 0) (o : Outcome)
     (a b : BuilderModel) → IsRefused breaks_off o a b → Claims (λ claims. claims ≡ []) a b
 claims_refused breaks_off o a b (inl still) = claims_still a b still
@@ -114,7 +114,7 @@ asked_lost rows row a b idle (hand, more, how, at) = (
   lost_asked rows row a.builder.hand hand more idle how,
 )
 
--- by the answer to the claim
+-- a row is asked for, by the answer to the claim
 pub asked_by : (t : Bool) (rows row : ℕ) (a b : BuilderModel) → IsIdle a
     → MatchBool t (IsWon rows row a b) (IsLost rows row a b) → Claims (IsAsked rows row) a b
 asked_by true rows row a b idle won = asked_won rows row a b won
@@ -170,12 +170,12 @@ rounds_more offers (round ∷ rounds) xs ys (rest, e, offered, more) may = (
   rounds_more offers rounds rest ys more may,
 )
 
--- before the first round
+-- before the first round nothing is left
 pub rounds_none : (rows : ℕ) (offers : List ℕ → Type 0) (a b : BuilderModel)
     → Claims (λ claims. claims ≡ []) a b → AsksInRounds rows offers [] a b
 rounds_none rows offers a b none = ([], [], refl, ([], refl, none))
 
--- a round more, after rounds of which nothing is left
+-- a round more, after rounds that left nothing
 pub round_more : (rows : ℕ) (offers : List ℕ → Type 0) (xs left : List ℕ) (a b c : BuilderModel)
     → AsksInRounds rows offers [] a b → offers xs → Asks rows xs left b c
     → AsksInRounds rows offers left a c
@@ -193,7 +193,7 @@ round_more rows offers xs left a b c (rounds, offered, are, (before, e, first)) 
       ),
     )
 
--- where nothing is left of it, nothing is left of all
+-- if a round leaves nothing, nothing is left of all rounds
 pub round_whole : (rows : ℕ) (offers : List ℕ → Type 0) (xs left : List ℕ) (a b c : BuilderModel)
     → AsksInRounds rows offers [] a b → offers xs → Asks rows xs left b c → left ≡ []
     → AsksInRounds rows offers [] a c

@@ -25,7 +25,7 @@ AreOutcomes lines os = AreSpelled outcome_line OutcomeFits lines os
 abbrev pub IsFirstBad : List (List ℕ) → ℕ → Type 0
 IsFirstBad lines number = IsFirstOther outcome_line OutcomeFits 1 lines number
 
--- a fault is that of the first faulty line; want of memory may stand in place of any answer
+-- a fault is that of the first faulty line; missing memory may be answered instead of anything
 abbrev pub FaultOf : List (List ℕ) → OutcomesFault → Type 0
 FaultOf lines (BadLine number) = IsFirstBad lines number
 FaultOf lines NoMemory = Unit {0}

@@ -10,7 +10,7 @@ use Rattle.td_journal.specs.Endings.{ending_at}
 use Rattle.td_builder.specs.declared.fault.OutcomesFault.{OutcomesFault}
 use Rattle.td_builder.specs.declared.fault.OutcomesFault.TheVariants.{BadLine, NoMemory}
 
--- the key and the outcome whose line it is
+-- the key and the outcome whose line this is
 unfoldable pub outcome_line_at : List ℕ → Option (Key × Outcome)
 outcome_line_at line = do
   p ← cut 32 line
@@ -18,7 +18,7 @@ outcome_line_at line = do
   outcome ← ending_at p.1
   Some (key, outcome)
 
--- what is told of the line with a number: what was read, that it is none, or want of memory
+-- what is answered of the line with a number: what was read, that it is none, or missing memory
 abbrev pub line_told : Result (Option (Key × Outcome)) AllocError → ℕ
     → Result (Key × Outcome) OutcomesFault
 line_told (Ok (Some p)) number = Ok p

@@ -6,7 +6,7 @@ use Rattle.td_board.specs.declared.views.BuilderTry.TheVariants.{ReleaseDone, Re
 use Rattle.td_board.specs.declared.views.BuilderTry.TheVariants.{FinishDone, FinishEarly}
 use Rattle.td_board.specs.Seats.{BuilderModel}
 
--- the claims among a builder's tries: the row that was tried, won or lost, or None where no row was
+-- the claims among a builder's tries: the row that was tried, won or lost, or None if no row was
 -- tried, since the release of the build before it came too early
 abbrev pub claims_in : List BuilderTry → List (Option ℕ)
 claims_in [] = []
@@ -17,13 +17,13 @@ claims_in (ReleaseEarly r ∷ tries) = None ∷ claims_in tries
 claims_in (FinishDone r c ∷ tries) = claims_in tries
 claims_in (FinishEarly r c ∷ tries) = claims_in tries
 
--- the builder of a seat tried more, and the claims among these tries are as said
+-- the builder of a seat tried more, and this holds of the claims among these tries
 abbrev pub Claims : (List (Option ℕ) → Type 0) → BuilderModel → BuilderModel → Type 0
 Claims are old new =
     (more : List BuilderTry) × (new.builder.tried ≡ old.builder.tried ++ more)
     × are (claims_in more)
 
--- a row of a board with so many rows is asked for by one claim, which tries it, or comes too early.
+-- a row of a board with this many rows is asked for by one claim, which tries it or is too early.
 -- For a number that no row has, nothing is tried
 abbrev pub IsAsked : ℕ → ℕ → List (Option ℕ) → Type 0
 IsAsked rows row claims =
@@ -36,7 +36,7 @@ AreAsked rows (row ∷ more) claims =
     (one : List (Option ℕ)) × (rest : List (Option ℕ)) × (claims ≡ one ++ rest)
     × IsAsked rows row one × AreAsked rows more rest
 
--- of the rows that are offered all are asked for, but for those that are left at the end
+-- all rows that are offered are asked for, except those that are left at the end
 abbrev pub Asks : ℕ → List ℕ → List ℕ → BuilderModel → BuilderModel → Type 0
 Asks rows offered left old new =
     (asked : List ℕ) × (offered ≡ asked ++ left) × Claims (AreAsked rows asked) old new
@@ -47,7 +47,7 @@ AreRounds offers [] offered = offered ≡ []
 AreRounds offers (round ∷ rounds) offered =
     (rest : List ℕ) × (offered ≡ round ++ rest) × offers round × AreRounds offers rounds rest
 
--- the rows that a builder asks for are offered to it in rounds, and of the last one some may be
+-- the rows that a builder asks for are offered to it in rounds, and some of the last one may be
 -- left
 abbrev pub AsksInRounds : ℕ → (List ℕ → Type 0) → List ℕ → BuilderModel → BuilderModel → Type 0
 AsksInRounds rows offers left old new =

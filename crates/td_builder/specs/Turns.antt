@@ -19,7 +19,7 @@ abbrev pub HasClaimedNone : BuilderModel → BuilderModel → Type 0
 HasClaimedNone old new =
     (new.builder.mine ≡ old.builder.mine) × Releases old.builder.hand new.builder.hand
 
--- one row was claimed, where none was held
+-- one row was claimed, while none was held
 abbrev pub HasClaimedOne : BuilderModel → BuilderModel → Type 0
 HasClaimedOne old new =
     (row : ℕ) × ((r : ℕ) → old.builder.hand ≢ Holding r)
@@ -36,14 +36,14 @@ abbrev pub Turn : Type 0
 Turn = Job × Outcome
 
 -- one turn, from a seat and a way to build to others: a job that may be given to the builder as it
--- then stands, the one build of it, which ends so, and the end of the row in hand with just that
+-- then is, the one build of it, which ends so, and the end of the row in hand with just that
 abbrev pub IsTurn : {W : Type 0} → (BuilderModel → Job → Type 0) → (BuilderModel → Outcome → Type 0)
     → (W → Job → Outcome → W → Type 0) → Turn → BuilderModel → W → BuilderModel → W → Type 0
 IsTurn jobs ends goes_on turn s w t x =
     (held : BuilderModel) × IsBetween s held × jobs held turn.0 × goes_on w turn.0 turn.1 x
     × IsFinished ends turn.1 held t
 
--- these turns, one after the other, and no build beside them
+-- these turns, one after the other, and no other build
 abbrev pub Turns : {W : Type 0} → (BuilderModel → Job → Type 0) → (BuilderModel → Outcome → Type 0)
     → (W → Job → Outcome → W → Type 0) → List Turn → BuilderModel → W → BuilderModel → W → Type 0
 Turns {W} jobs ends goes_on [] s w t x = IsBetween s t × (x ≡ w)
@@ -51,13 +51,13 @@ Turns {W} jobs ends goes_on (turn ∷ turns) s w t x =
     (mid : BuilderModel) × (by : W) × IsTurn jobs ends goes_on turn s w mid by
     × Turns jobs ends goes_on turns mid by t x
 
--- so many turns
+-- this many turns
 abbrev pub Worked : {W : Type 0} → (BuilderModel → Job → Type 0) → (BuilderModel → Outcome → Type 0)
     → (W → Job → Outcome → W → Type 0) → ℕ → BuilderModel → W → BuilderModel → W → Type 0
 Worked jobs ends goes_on n s w t x =
     (turns : List Turn) × (n ≡ length turns) × Turns jobs ends goes_on turns s w t x
 
--- where a builder stops: nothing more was done, or one job more was built, and its end refused
+-- how a builder stops: nothing more was done, or one job more was built, and its end refused
 abbrev pub IsStopped : {W : Type 0} → (BuilderModel → Job → Type 0)
     → (BuilderModel → Outcome → Type 0) → (W → Job → Outcome → W → Type 0) → BuilderModel → W
     → BuilderModel → W → Type 0

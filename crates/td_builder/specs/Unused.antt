@@ -27,7 +27,7 @@ lines_of_key m k = elim (lookup (same_key k) m) [ Some v ↦ v.items | None ↦ 
 abbrev pub with_line : Key → Key → KeyLine → List KeyLine → List KeyLine
 with_line k key line lines = if same_key k key then lines ++ line ∷ [] else lines
 
--- of these ends, in order, those of a key, each with the number of its line; the first has the
+-- the ends of a key among these, in order, each with the number of its line; the first has the
 -- number given
 abbrev pub numbered : Key → ℕ → List (Key × Outcome) → List KeyLine
 numbered k n [] = []
@@ -55,15 +55,15 @@ pub record AreUnused (m : KeyLines) (used : List ℕ) (texts : List (List ℕ)) 
 abbrev pub MayAnswer : List OutcomeCode → OutcomeCode → Type 0
 MayAnswer codes c = (c ≡ code.Built) ⊎ ((at : ℕ) × (slice_get codes at ≡ Some c))
 
--- the outcome of a code, with the text where it waits
+-- the outcome of a code, with the text if it waits
 abbrev pub outcome_of : OutcomeCode → List ℕ → Outcome
 outcome_of code.Built t = Built
 outcome_of code.Attempted t = Attempted
 outcome_of code.GivenBack t = GivenBack
 outcome_of code.Waits t = Waits t
 
--- the next line of the key in this slot: so many were used, this is the one after them, and its
--- text is there
+-- the next line of the key in this slot: it is the one after those that were used, and its text is
+-- there
 pub record IsNext (slot : ℕ) (lines : List KeyLine) (used : List ℕ)
     (texts : List (List ℕ)) : Type 0 where
   pub number : ℕ

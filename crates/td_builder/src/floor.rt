@@ -26,7 +26,7 @@ pub trait Builds {
         ensures { goes_on self.old job result self.new };
 }
 
-/// What a call of a floor gives: a value that tells one answer. Where only the call itself can make
+/// What a call of a floor gives: a value that tells one answer. If only the call itself can make
 /// the value, no answer is made up.
 pub trait Tells<A> {
     /// The answer.
@@ -54,6 +54,9 @@ pub trait Floor {
     /// What `finish` gives: it tells the number of the entry, or why there is none.
     type Ended: Tells<Result<EntryNo, FinishRefusal>>;
 
+    /// What `stop` gives a builder: none stops without it.
+    type Stopped;
+
     /// The table of the board at which its builders sit.
     ghost table: { Self → TableId };
 
@@ -63,14 +66,14 @@ pub trait Floor {
     /// Which numbers `ready` may answer, in which order.
     ghost offers: { Self → List ℕ → Type 0 };
 
-    /// Which jobs `start` may answer to the builder of a seat, as it stands.
+    /// Which jobs `start` may answer to the builder of a seat, as it is.
     ghost jobs: { Self → BuilderModel → JobValue → Type 0 };
 
-    /// What is known of a builder's seat, as it stood, and an outcome once `finish` has answered
+    /// What is known of a builder's seat, as it was, and an outcome once `finish` has answered
     /// that the build of the row in hand ended with it, text included.
     ghost ends: { Self → BuilderModel → OutcomeValue → Type 0 };
 
-    /// What is known of a builder's seat, as it stood, and an outcome once `finish` was refused
+    /// What is known of a builder's seat, as it was, and an outcome once `finish` was refused
     /// though the build of the row in hand ended with it.
     ghost breaks_off: { Self → BuilderModel → OutcomeValue → Type 0 };
 
@@ -79,6 +82,9 @@ pub trait Floor {
 
     /// What is known once one of its calls was refused: for what the builder stops.
     ghost stopped: { Self → WorkStopValue → Type 0 };
+
+    /// For what a builder stops that was given this.
+    ghost reason: { Self.Stopped → WorkStopValue };
 
     /// The numbers of the rows that wait for a builder, in the order in which they are to be tried.
     fn ready<R: Wait>(&self, rt: &R) -> Result<Vec<usize>, AllocError>
@@ -98,7 +104,7 @@ pub trait Floor {
         ensures job { IfOk (Self.Started.tells result) (jobs self.now seat.now) }
         ensures err { IfErr (Self.Started.tells result) (λ e. stopped self.now (start_stop e)) };
 
-    /// Ends the build of the row that the builder holds. Where that is refused it may have ended
+    /// Ends the build of the row that the builder holds. If that is refused, it may have ended
     /// all the same, as the seat says.
     fn finish<R: Wait>(&self, rt: &R, seat: &mut BuilderSeat, outcome: Outcome) -> Self::Ended
         requires table { seat.old.table ≡ table self.now }
@@ -109,8 +115,13 @@ pub trait Floor {
             (IsRefused (breaks_off self.now) outcome seat.old seat.new) }
         ensures err { IfErr (Self.Ended.tells result) (λ e. stopped self.now (finish_stop e)) };
 
-    /// Waits until a row waits for a builder, or the floor is shut. Where it is shut, and none
+    /// Waits until a row waits for a builder, or the floor is shut. If it is shut, and none
     /// waits, the builder gets what it goes home with.
     fn wait_for_work<R: Wait>(&self, rt: &R) -> Option<Self::Home>
         ensures { OnSome result (ended self.now) };
+
+    /// Notes that a builder stops, for what one of the calls was refused for.
+    fn stop<R: Wait>(&self, rt: &R, why: WorkStop) -> Self::Stopped
+        requires { stopped self.now why }
+        ensures { reason result ≡ why };
 }

@@ -3,8 +3,8 @@
 //! Start at `work`. `Floor` is where builders find rows, `Builds` a way to build; `Outcomes` is
 //! one, by lines of a text.
 //! Promised: a builder works in turns. In each the job that the floor gives for the row in hand is
-//! built, once, and the floor takes its own outcome as the end of the row; nothing else is built,
-//! and the turns are counted. It ends, or stops, only where the floor says so, or at the last
+//! built, once, and the floor takes its own outcome as the end of the row; nothing else is built.
+//! The turns are counted. A builder ends, or stops, only if the floor says so, or at the last
 //! `u64`.
 #![tactic(auto)]
 

@@ -24,13 +24,13 @@ use td_rows::{Key, Line, Outcome};
 use td_text::{behind, next_line};
 
 /// A way to build that has no need to: each build of a key ends as the next unused line of it
-/// says, and is built where no line is left. Builders' threads share it, by a reference each, and
+/// says, and is built if no line is left. Builders' threads share it, by a reference each, and
 /// no line is used twice.
 #[derive(Drop)]
 pub struct Outcomes {
     alloc: Global,
     lines: IndexMap<Key, Vec<KeyLine>>,
-    // Behind the lock: which lines were used, and the texts of the others.
+    // Under the lock: which lines were used, and the texts of the others.
     unused: UnusedLock,
 }
 
@@ -58,8 +58,7 @@ impl Gathered {
     }
 }
 
-// What was read of the line with a number, or its fault: a line that is none isn't told as want of
-// memory.
+// What was read of the line with a number, or its fault: a line that is none isn't missing memory.
 fn told(
     read: Result<Option<(Key, Outcome)>, AllocError>,
     number: usize,

@@ -57,7 +57,7 @@ pub(crate) fn parts_of(alloc: Global, outcome: Outcome) -> (OutcomeCode, Line)
     }
 }
 
-// Both again.
+// The outcome of a code, with its text.
 fn outcome_of(code: OutcomeCode, text: Line) -> Outcome
     ensures { result ≡ outcome_in code text }
 {
@@ -70,7 +70,7 @@ fn outcome_of(code: OutcomeCode, text: Line) -> Outcome
 }
 
 impl Unused {
-    /// No line of so many keys was used.
+    /// No line of this many keys was used.
     pub fn new(alloc: Global, texts: Vec<Line>, keys: usize) -> Result<Unused, AllocError>
         ensures texts { IfOk result (λ u. u.texts.items ≡ texts.items) }
         ensures used { IfOk result (λ u. u.used.items ≡ replicate keys 0) }
@@ -79,8 +79,8 @@ impl Unused {
         Ok(Unused { texts, used })
     }
 
-    /// Uses the next of a key's lines, and answers its outcome; None where the key has none left,
-    /// or where its count or its text isn't there. It takes no memory.
+    /// Uses the next of a key's lines, and answers its outcome; None if the key has none left,
+    /// or if its count or its text isn't there. It takes no memory.
     pub fn next_of(
         &mut self,
         alloc: Global,

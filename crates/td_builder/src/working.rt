@@ -12,19 +12,20 @@ use td_board::{BuilderSeat, Hand};
 
 /// Claims rows of the floor, in the order in which it offers them, and builds them until the floor
 /// ends, and answers how many builds were finished, and with what the builder goes home. A row that
-/// the seat comes with is built first. After a stop the seat says where the builder stands, and the
-/// next `work` goes on from there. It ends at the last `u64`, too, without going home.
+/// the seat comes with is built first. If it stops, the floor has noted why; the seat says then where
+/// the builder is, and the next `work` goes on from there. It ends at the last `u64`, too, without
+/// going home.
 pub fn work<F: Floor, B: Builds, R: Wait>(
     rt: &R,
     floor: &F,
     seat: &mut BuilderSeat,
     builds: &mut B,
-) -> Result<(u64, Option<F::Home>), WorkStop>
+) -> Result<(u64, Option<F::Home>), F::Stopped>
     requires { seat.old.table ≡ F.table floor.now }
     ensures worked { IfOk result (λ done. Worked (F.jobs floor.now) (F.ends floor.now) B.goes_on
         done.0 seat.old builds.old seat.new builds.new) }
     ensures table { seat.new.table ≡ seat.old.table }
-    // All that is offered is asked for, but at the last `u64`.
+    // All that is offered is asked for, except at the last `u64`.
     ensures asked { IfOk result (λ done. (left : List ℕ)
         × AsksInRounds (F.rows floor.now) (F.offers floor.now) left seat.old seat.new
         × (done.0 < 2 ^ 64 - 1 → left ≡ [])) }
@@ -35,7 +36,7 @@ pub fn work<F: Floor, B: Builds, R: Wait>(
         (F.breaks_off floor.now) B.goes_on seat.old builds.old seat.new builds.new) }
     ensures asked_meanwhile { OnErr result ((left : List ℕ)
         × AsksInRounds (F.rows floor.now) (F.offers floor.now) left seat.old seat.new) }
-    ensures stopped { IfErr result (F.stopped floor.now) }
+    ensures stopped { IfErr result (λ stop. F.stopped floor.now (F.reason stop)) }
 {
     let mut built = 0u64;
     if let Hand::Holding(_) = seat.hand() {
@@ -44,7 +45,7 @@ pub fn work<F: Floor, B: Builds, R: Wait>(
     }
     for _ in rt.forever() {
         let Ok(ready) = floor.ready(rt) else {
-            return Err(WorkStop::NoMemory);
+            return Err(floor.stop(rt, WorkStop::NoMemory));
         };
         built += build_each(rt, floor, ready.as_slice(), u64::MAX - built, seat, builds)?;
         if built == u64::MAX {
@@ -57,7 +58,7 @@ pub fn work<F: Floor, B: Builds, R: Wait>(
     Ok((built, None))
 }
 
-// Claims each row, and builds those whose claims are won, so many at most. Answers how many builds
+// Claims each row, and builds those whose claims are won, at most `most`. Answers how many builds
 // were finished.
 fn build_each<F: Floor, B: Builds, R: Wait>(
     rt: &R,
@@ -66,7 +67,7 @@ fn build_each<F: Floor, B: Builds, R: Wait>(
     most: u64,
     seat: &mut BuilderSeat,
     builds: &mut B,
-) -> Result<u64, WorkStop>
+) -> Result<u64, F::Stopped>
     requires table { seat.old.table ≡ F.table floor.now }
     requires idle { IsIdle seat.old }
     ensures worked { IfOk result (λ n. Worked (F.jobs floor.now) (F.ends floor.now) B.goes_on n
@@ -78,7 +79,7 @@ fn build_each<F: Floor, B: Builds, R: Wait>(
         (F.breaks_off floor.now) B.goes_on seat.old builds.old seat.new builds.new) }
     ensures asked_meanwhile { OnErr result ((left : List ℕ)
         × Asks (F.rows floor.now) rows.now left seat.old seat.new) }
-    ensures stopped { IfErr result (F.stopped floor.now) }
+    ensures stopped { IfErr result (λ stop. F.stopped floor.now (F.reason stop)) }
 {
     let mut built = 0u64;
     for row in rows {
@@ -90,14 +91,14 @@ fn build_each<F: Floor, B: Builds, R: Wait>(
     Ok(built)
 }
 
-// Claims a row, and builds it where the claim is won. Answers how many builds were finished.
+// Claims a row, and builds it if the claim is won. Answers how many builds were finished.
 fn claim_and_build<F: Floor, B: Builds, R: Wait>(
     rt: &R,
     floor: &F,
     row: usize,
     seat: &mut BuilderSeat,
     builds: &mut B,
-) -> Result<u64, WorkStop>
+) -> Result<u64, F::Stopped>
     requires table { seat.old.table ≡ F.table floor.now }
     requires idle { IsIdle seat.old }
     ensures worked { IfOk result (λ n. Worked (F.jobs floor.now) (F.ends floor.now) B.goes_on n
@@ -106,7 +107,7 @@ fn claim_and_build<F: Floor, B: Builds, R: Wait>(
     ensures idle { OnOk result (IsIdle seat.new) }
     ensures meanwhile { OnErr result (WorkedUntil (F.jobs floor.now) (F.ends floor.now)
         (F.breaks_off floor.now) B.goes_on seat.old builds.old seat.new builds.new) }
-    ensures stopped { IfErr result (F.stopped floor.now) }
+    ensures stopped { IfErr result (λ stop. F.stopped floor.now (F.reason stop)) }
 {
     if !floor.claim(row, seat) {
         return Ok(0);
@@ -121,7 +122,7 @@ fn build_held<F: Floor, B: Builds, R: Wait>(
     floor: &F,
     seat: &mut BuilderSeat,
     builds: &mut B,
-) -> Result<(), WorkStop>
+) -> Result<(), F::Stopped>
     requires table { seat.old.table ≡ F.table floor.now }
     requires hand { IsHolding seat.old }
     ensures worked { OnOk result (Worked (F.jobs floor.now) (F.ends floor.now) B.goes_on 1
@@ -130,15 +131,15 @@ fn build_held<F: Floor, B: Builds, R: Wait>(
     ensures idle { OnOk result (IsIdle seat.new) }
     ensures meanwhile { OnErr result (WorkedUntil (F.jobs floor.now) (F.ends floor.now)
         (F.breaks_off floor.now) B.goes_on seat.old builds.old seat.new builds.new) }
-    ensures stopped { IfErr result (F.stopped floor.now) }
+    ensures stopped { IfErr result (λ stop. F.stopped floor.now (F.reason stop)) }
 {
     let job = match floor.start(rt, seat).answer() {
         Ok(job) => job,
-        Err(refusal) => return Err(start_stop(refusal)),
+        Err(refusal) => return Err(floor.stop(rt, start_stop(refusal))),
     };
     let outcome = builds.build(rt, job);
     match floor.finish(rt, seat, outcome).answer() {
         Ok(_) => Ok(()),
-        Err(refusal) => Err(finish_stop(refusal)),
+        Err(refusal) => Err(floor.stop(rt, finish_stop(refusal))),
     }
 }

@@ -1,5 +1,5 @@
 -- The marks of a journal's text say as much of a book's changes as those of the history from which
--- the script starts: what is given back at its opening is no clerk's, and stands.
+-- the script starts: what is given back at its opening is no clerk's, and isn't undone.
 use Rattle.std.proofs.Common.{◌≡◌, ℕ, suc, Bool, true, false, not, ◌&&◌, ◌||◌}
 use Rattle.std.proofs.Common.{List, [], ◌∷◌, ◌++◌, map, length, take, refl, sym, subst, ap, ◌∙◌}
 use Rattle.std.proofs.Common.{Option, Some, None, if◌then◌else◌}
@@ -78,7 +78,7 @@ StartsWith-on before ms on =
 
 -- ---- 3. changes
 
--- of an entry that is no desk's only its undo is a change
+-- an entry that is no desk's is no change; only its undo is one
 one_since : (n : ℕ) (x : Marked) (e : Entry) → x.entry ≡ e → IsNoDesks e
     → made_by n x.entry.kind x.entry.keys ++ undone_since n true x.mark
     ≡ undone_since n true x.mark

@@ -20,7 +20,7 @@ use Rattle.td_crew.specs.declared.running.CrewFault.TheVariants.{BadOutcome, Run
 use Rattle.td_crew.specs.CrewEnds.{AreRead, CrewMayStop, CrewOnly, CrewSays, IsNoOutcomes}
 use Rattle.td_crew.specs.CrewEnds.{StopsSo, UnreadMayStop, crew_end, unread_fault}
 
--- nothing is written where a text is refused
+-- nothing is written if a text is refused
 untouched : (May : Telling) (x : Texts) (known old new : Option (List ℕ)) (e : RunFault)
     → IsRefusedBy x e → Keeps old new → SaysBy May x known old new (Err e)
 untouched May x known old new (fault.Input i) refused keeps = (refused, keeps)
@@ -30,7 +30,7 @@ untouched May x known old new fault.NotText refused keeps = absurd refused
 untouched May x known old new fault.Write refused keeps = absurd refused
 untouched May x known old new fault.NoMemory refused keeps = keeps
 
--- where the outcomes aren't read
+-- how a run ends whose outcomes aren't read
 pub unread_says : (May : Telling) (x : Texts) (lines : List (List ℕ))
     (known old new : Option (List ℕ)) (f : CrewFault)
     → IsNoOutcomes x lines f → Keeps old new → CrewSays May x lines known old new (Err f)
@@ -47,7 +47,7 @@ pub bad_unread : (lines : List (List ℕ)) (n : ℕ) → IsFirstBad lines n → 
 bad_unread lines n bad read =
     AreSpelled-other outcome_line OutcomeFits 1 n lines read.0 read.1 bad
 
--- nor is a stream to blame where they aren't read
+-- no stream is to blame if the outcomes aren't read
 pub unread_calm : (x : Texts) (lines : List (List ℕ)) (f : CrewFault) → IsNoOutcomes x lines f
     → f ≡ Run fault.Read → ⊥
 unread_calm x lines f is same = subst (IsNoOutcomes x lines) same is
@@ -56,7 +56,7 @@ pub unwritten_calm : (x : Texts) (lines : List (List ℕ)) (f : CrewFault) → I
     → f ≡ Run fault.Write → ⊥
 unwritten_calm x lines f is same = subst (IsNoOutcomes x lines) same is
 
--- what is told of outcomes that aren't read: the fault of a file in front of them, or theirs
+-- the fault of outcomes that aren't read: that of a file before them, or their own
 pub unread_is : (x : Texts) (lines : List (List ℕ)) (judged : Result (Unit {0}) RunFault)
     (f : OutcomesFault) (told : CrewFault) → FaultOf lines f
     → MatchResult judged (λ _. AreFine (without_journal x)) (IsRefusedBy (without_journal x))
@@ -67,7 +67,7 @@ unread_is x lines (Ok u) (bad.BadLine n) told first is same =
 unread_is x lines (Ok u) bad.NoMemory told first is same =
     subst (IsNoOutcomes x lines) (sym same) tt
 
--- where all is read but memory runs out
+-- a run whose texts and outcomes can be read stops only for memory or a pattern
 pub unread_only : (x : Texts) (lines : List (List ℕ)) (judged : Result (Unit {0}) RunFault)
     (f : OutcomesFault) (told : CrewFault) → FaultOf lines f
     → IfErr judged (λ e. AreReadable (without_journal x) → Stops (without_journal x) e)
@@ -79,7 +79,7 @@ unread_only x lines (Ok u) (bad.BadLine n) told first only same read fits =
 unread_only x lines (Ok u) bad.NoMemory told first only same read fits =
     subst (StopsSo x) (sym same) tt
 
--- and where the files in front of them are read
+-- why a run may stop if the files before the outcomes can be read
 pub unread_may : (x : Texts) (judged : Result (Unit {0}) RunFault) (f : OutcomesFault)
     (told : CrewFault) → IfErr judged (λ e. AreReadable x → Stops x e)
     → told ≡ unread_fault judged f → AreReadable x → UnreadMayStop x told
@@ -87,7 +87,7 @@ unread_may x (Err e) f told only same fits = subst (UnreadMayStop x) (sym same) 
 unread_may x (Ok u) (bad.BadLine n) told only same fits = subst (UnreadMayStop x) (sym same) tt
 unread_may x (Ok u) bad.NoMemory told only same fits = subst (UnreadMayStop x) (sym same) tt
 
--- ---- where the outcomes are read
+-- ---- the outcomes are read
 
 pub says_read : (May : Telling) (x : Texts) (lines : List (List ℕ))
     (known old new : Option (List ℕ)) (end : Result ScriptEnd RunFault)
@@ -112,7 +112,7 @@ only_read x lines known (Err e) told read only same =
       unread = λ unread readable. absurd (unread read);
     })
 
--- it stops for what the script's run stops for
+-- a crew's run stops for what its script's run stops for
 pub stops_read : (end : Result ScriptEnd RunFault) (told : Result ScriptEnd CrewFault)
     (e : RunFault) → told ≡ crew_end end → IsErrOf told (Run e) → IsErrOf end e
 stops_read (Ok end) told e same is = absurd (let h = same in cc)

@@ -1,4 +1,4 @@
--- What a crew tells ends with the rows of the book with which its desk is closed.
+-- A crew's answers end with the rows of the book with which its desk is closed.
 use Rattle.std.proofs.Common.{◌≡◌, ℕ, ◌+◌, true, List, ◌++◌, length, map, Option, Some, None}
 use Rattle.std.proofs.Common.{Result, Ok, Err, refl, sym, ap, ap₂, append_assoc, subst, ◌∙◌}
 use Rattle.std.specs.Prelude.{IfErr, IfOk, OnOk, codes, string_bytes}
@@ -46,7 +46,7 @@ opening_begun : (given : Option (List ℕ)) (rows : Table) (h : History) → IsB
 opening_begun None rows h is = ap (λ (x : History). x.opening) is
 opening_begun (Some text) rows h is = ap (λ (x : History). x.opening) is.2
 
--- what goes on with what the desk was opened with goes on with where the script starts
+-- a journal that goes on with that of the desk's opening goes on with that of the script's start
 begun-on : (origin : Origin) (given : Option (List ℕ)) (h now : History) → origin.journal ≡ given
     → IsBegun given origin.rows h → Begins origin now.journal → GoesOn h.journal now.journal
 begun-on origin None h now at is began =
@@ -81,7 +81,7 @@ crew_book builders table origin s h b staff stock is of = record {
   lawful = of.lawful;
 }
 
--- its changes since the desk's opening are those since the script's start
+-- a book's changes since the desk's opening are those since the script's start
 changes_begun : (builders : ℕ) (origin : Origin) (opened : List Mark) (s : Setting) (h : History)
     (b : BookModel)
     → opened ≡ marks_begun origin.journal → IsShort origin.journal
@@ -91,7 +91,7 @@ changes_begun builders origin opened s h b marks short is of =
     ap (λ (os : List Mark). changes os b) marks
     ∙ changes_told origin.journal origin.rows h b.history.journal short is of.on
 
--- one that a clerk with all parts meets has as many as the clerk has receipts
+-- a book that a clerk with all parts meets has as many changes as the clerk has receipts
 crew_book_at : (builders : ℕ) (table : TableId) (origin : Origin) (opened : List Mark) (parts : ℕ)
     (s : Setting) (h : History) (had : List Receipt) (b : BookModel) → parts ≡ 1024
     → opened ≡ marks_begun origin.journal → IsShort origin.journal
@@ -103,9 +103,9 @@ crew_book_at builders table origin opened parts s h had b whole marks short is o
       ∙ ap length (changes_begun builders origin opened s h b marks short is of);
 }
 
--- ---- 2. where it ends
+-- ---- 2. where a crew ends
 
--- the line `rows` and the rows stand behind what was told
+-- the line `rows` and the rows come after the answers
 pub rows_put : (told now : ToldText) (h : History) (front rows : List ℕ)
     → Lawful h.opening (standing h.journal) → string_bytes now.text ≡ front ++ rows
     → front ≡ string_bytes told.text ++ ended (codes "rows") → rows ≡ state_text (rows_of h)
@@ -138,7 +138,7 @@ rows_closed table origin opened receipts told mid now b closing of still counted
       refused = rows.refused ∙ more;
     }
 
--- what is told of the lines, of those who are missing and of the closing is what a crew may tell
+-- answers to the lines, missing builders and the closing are what a crew may answer
 pub ends_closed : (builders : ℕ) (table : TableId) (origin : Origin) (s : Setting)
     (opened : List Mark) (script : List ℕ) (receipts : List Receipt) (told now : ToldText)
     (parts missing : ℕ) → parts ≡ 1024 → origin.builders ≡ builders → s.stock ≡ origin.stock
@@ -186,9 +186,9 @@ told_ok builders s given rows lines (Ok told) begun ends =
     (begun.0, begun.1, ends begun.0 begun.1)
 told_ok builders s given rows lines (Err e) begun ends = tt
 
--- ---- 3. where none is begun
+-- ---- 3. no desk is begun
 
--- what is told was begun
+-- what holds of what was begun holds if there are answers
 pub told_begun : {A : Type 0} (P : Type 0) (begun : Result A ReadError)
     (r : Result ToldText ReadError) → OnOk begun P → IfErr begun (λ e. r ≡ Err e) → OnOk r P
 told_begun P (Ok a) (Ok told) is same = is
@@ -196,7 +196,7 @@ told_begun P (Ok a) (Err e) is same = tt
 told_begun P (Err e) (Ok told) is same = absurd (let h = same in cc)
 told_begun P (Err e) (Err f) is same = tt
 
--- where nothing is told, nothing was begun, or memory ran out
+-- if there are no answers, no desk was begun, or memory ran out
 pub untold_begun : {A : Type 0} (P : ReadError → Type 0) (begun : Result A ReadError)
     (r : Result ToldText ReadError) → P NoMemory → IfErr begun P
     → IfErr begun (λ e. r ≡ Err e) → OnOk begun (IfErr r (λ e. e ≡ NoMemory)) → IfErr r P

@@ -1,4 +1,4 @@
--- What a clerk beside builders says is what a book of the desk answers, in the words of scripts.
+-- What a clerk with builders says is what a book of the desk answers, in the words of scripts.
 use Rattle.std.proofs.Common.{◌≡◌, ◌⊎◌, ℕ, Bool, true, false, List, [], ◌∷◌, ◌++◌, Option, Some}
 use Rattle.std.proofs.Common.{None, Result, Ok, Err, inl, inr, refl, sym, ap, ◌∙◌, append-nil}
 use Rattle.std.proofs.Common.{append_assoc, subst}
@@ -51,7 +51,7 @@ use Rattle.td_crew.specs.CrewText.{AreTold, Told, with_reply}
 
 -- ---- 1. what is put
 
--- a refusal is told, and the clerk gets no receipt
+-- the clerk says a refusal, and gets no receipt
 said_refused : (name before now : List ℕ) (old new : List Receipt) (refused : Bool)
     → IsPut (refusal_line name) true before now refused → new ≡ old
     → IsSaid (declines name []) before now old new refused
@@ -61,7 +61,7 @@ said_refused name before now old new refused put same = record {
   refusal = put.refusal;
 }
 
--- an entry is told, and the clerk gets its receipt
+-- the clerk says the line of an entry, and gets its receipt
 made_said : (n : ℕ) (keys : List Key) (behind before mid now : List ℕ) (receipt : Receipt)
     (old new : ClerkModel) → mid ≡ before ++ entry_made n keys → now ≡ mid ++ behind
     → new ≡ with_receipt receipt old
@@ -77,7 +77,7 @@ made_said n keys behind before mid now receipt old new one two got = record {
   refusal = refl;
 }
 
--- where memory isn't wanting, there is an answer
+-- if memory hasn't run out, there is an answer
 answered : {A B : Type 0} → (A → ⊥) → A ⊎ B → B
 answered other (inl a) = absurd (other a)
 answered other (inr b) = b
@@ -97,7 +97,7 @@ undo_refused Of n e before now old new refused a of same put = (
       (ap (λ (c : ClerkModel). c.receipts) same),
 )
 
--- what is said to an undo
+-- what a clerk says to an undo
 undo_said : (Of : BookModel → Type 0) (n : ℕ)
     (answer : Result (Unit {0}) UndoRefusal) (before now : List ℕ) (old new : ClerkModel)
     (refused : Bool) → Undoing n Of answer
@@ -131,7 +131,7 @@ undo_said Of n (Err (undos.Blocked m)) before now old new refused a ok err put =
     undo_refused Of n (undos.Blocked m) before now old new refused
     a refl err put
 
--- what is said to an undo by the answer that was taken out of what tells it
+-- what a clerk says to an undo, by an answer that equals the desk's
 pub undo_taken : (Of : BookModel → Type 0) (n : ℕ)
     (answer told : Result (Unit {0}) UndoRefusal) (before now : List ℕ) (old new : ClerkModel)
     (refused : Bool) → answer ≡ told → Undoing n Of told
@@ -153,7 +153,7 @@ pub parts_undone : (n : ℕ) (answer : Result (Unit {0}) UndoRefusal) (old new :
 parts_undone n (Ok u) old new ok err = ap (λ (c : ClerkModel). c.parts) ok
 parts_undone n (Err e) old new ok err = ap (λ (c : ClerkModel). c.parts) err
 
--- what is said to an arrival that is entered
+-- what a clerk says to an arrival that is entered
 pub arrival_made : (Of : BookModel → Type 0) (k : Key) (n : ℕ) (keys : List Key)
     (before now : List ℕ) (old new : ClerkModel)
     → Arriving k Of (Ok n)
@@ -172,7 +172,7 @@ pub parts_with : (r : Receipt) (old new : ClerkModel) → new ≡ with_receipt r
     → new.parts ≡ old.parts
 parts_with r old new got = ap (λ (c : ClerkModel). c.parts) got
 
--- and to one that is refused
+-- what a clerk says to an arrival that is refused
 pub arrival_refused : (Of : BookModel → Type 0) (k : Key) (e : ArriveRefusal)
     (before now : List ℕ) (old new : ClerkModel) (refused : Bool)
     → Arriving k Of (Err e)
@@ -192,7 +192,7 @@ arrival_refused Of k (arrivals.DoesNotApply s) before now old new refused its sa
 )
 arrival_refused Of k arrivals.NoMemory before now old new refused a same put = absurd put
 
--- what is said to a sweep that finds something: the clerk has its receipt when its entry is read
+-- what a clerk says to a sweep that finds something: it has the receipt when the entry is read
 pub sweep_made : (Of : ℕ → List Receipt → BookModel → Type 0) (n : ℕ) (b : BookModel)
     (before now : List ℕ) (old mid new : ClerkModel)
     → Sweeping (Of old.parts old.receipts) (Ok (Some n)) → Of mid.parts mid.receipts b
@@ -221,7 +221,7 @@ pub parts_swept : (swept : Option ℕ) (old new : ClerkModel)
 parts_swept None old new same = ap (λ (c : ClerkModel). c.parts) same
 parts_swept (Some n) old new got = ap (λ (c : ClerkModel). c.parts) got
 
--- and to one that finds nothing
+-- what a clerk says to a sweep that finds nothing
 pub sweep_none : (Of : List Receipt → BookModel → Type 0) (before now : List ℕ)
     (old new : ClerkModel) → Sweeping (Of old.receipts) (Ok None) → new ≡ old
     → now ≡ before ++ ended (codes "nothing to sweep")
@@ -236,7 +236,7 @@ sweep_none Of before now old new a same put = (
   },
 )
 
--- what is said to a command that is entered: the keys are those of its receipt
+-- what a clerk says to a command that is entered: the keys are those of its receipt
 pub command_made : (Of : BookModel → Type 0) (c : CommandParts) (t : Taken)
     (keys : List Key) (before mid now : List ℕ) (old new : ClerkModel)
     → (◌≡◌ {A = Result Taken CommandRefusal} (Ok t) (Err commands.NoMemory)
@@ -257,7 +257,7 @@ command_made Of c t keys before mid now old new a own put behind =
           (put ∙ ap (λ (ks : List Key). before ++ entry_made t.number ks) same) behind its.4,
     )
 
--- and it takes none of the clerk's parts
+-- a command takes none of the clerk's parts
 pub parts_commanded : (table : TableId) (origin : Origin) (opened : List Mark) (parts : ℕ)
     (had : List Receipt) (c : CommandParts) (t : Taken) (old new : ClerkModel)
     → (◌≡◌ {A = Result Taken CommandRefusal} (Ok t) (Err commands.NoMemory)
@@ -266,7 +266,7 @@ pub parts_commanded : (table : TableId) (origin : Origin) (opened : List Mark) (
 parts_commanded table origin opened parts had c t old new a =
     let its = answered (λ none. let h = none in cc) a in ap (λ (x : ClerkModel). x.parts) its.4
 
--- and to one that is refused
+-- what a clerk says to a command that is refused
 pub command_refused : (Of : BookModel → Type 0) (c : CommandParts) (e : CommandRefusal)
     (before now : List ℕ) (old new : ClerkModel) (refused : Bool)
     → (◌≡◌ {A = Result Taken CommandRefusal} (Err e) (Err commands.NoMemory)
@@ -286,7 +286,7 @@ command_refused Of c (commands.NothingApplies skips) before now old new refused 
     )
 command_refused Of c commands.NoMemory before now old new refused a same put = absurd put
 
--- what is said to what changes nothing
+-- what a clerk says to what changes nothing
 pub shown_said : (Of : BookModel → Type 0) (reply : History → Reply) (b seen : BookModel)
     (shown : Shown) (before now : List ℕ) (receipts : List Receipt) (refused : Bool)
     → Of b → seen ≡ b → IsShown (reply seen.history) shown
@@ -307,7 +307,7 @@ shown_said Of reply b seen shown before now receipts refused of same is put said
       },
     )
 
--- by which request it was asked for
+-- an answer to a request is one to an equal request
 pub asked_for : (Of : List Receipt → BookModel → Type 0) (s : Setting) (q request : Request)
     (r : Result Bool AllocError) (before now : List ℕ) (old new : ClerkModel) → request ≡ q
     → new ≡ old
@@ -331,7 +331,7 @@ refusal_said May name before now receipts may put = (
       refl,
 )
 
--- what is said to a line that is typed and has a fault
+-- what a clerk says to a line that is typed and has a fault
 pub fault_said : (Of : BookModel → Type 0) (read : Result CommandParts CommandFault)
     (e : CommandFault) (what : LineFault) (place : ℕ) (before now : List ℕ)
     (receipts : List Receipt) → IsFaultOf read e → e ≡ Wrong what place
@@ -342,7 +342,7 @@ fault_said Of read e what place before now receipts is same put =
     Says (MayType Of k) before now receipts receipts true) (sym (subst (IsFaultOf read) same is))
     (refusal_said (MayType Of (Err (Wrong what place))) (name_of what) before now receipts refl put)
 
--- what is said to a line that says nothing
+-- what a clerk says to a line that says nothing
 pub skipped_said : (Of : List Receipt → BookModel → Type 0) (s : Setting) (line text : List ℕ)
     (receipts : List Receipt) (said : Said) → said ≡ said_at line → said ≡ Skipped
     → Says (MayReply Of s receipts line) text text receipts receipts false
@@ -356,7 +356,7 @@ skipped_said Of s line text receipts said at is = (
   },
 )
 
--- and to one that can't be read
+-- what a clerk says to a line that can't be read
 pub bad_said : (Of : List Receipt → BookModel → Type 0) (s : Setting) (line before now : List ℕ)
     (receipts : List Receipt) (said : Said) → said ≡ said_at line → said ≡ Bad
     → now ≡ before ++ refusal_line (codes "BadLine")
@@ -409,7 +409,7 @@ say_more Of Also f s had line Bad r m = m
 say_more Of Also f s had line Typed r m =
     type_more (Of had) (Also had) (f had) (command_at s.stock.table s.suites line) r m
 
--- lines that are told over books are told over whatever these books are
+-- lines that are answered over some books are answered over more books
 pub told_more : (Of Also : List Receipt → BookModel → Type 0)
     → ((had : List Receipt) (b : BookModel) → Of had b → Also had b) → (s : Setting)
     (lines : List (List ℕ)) (t last : Told) → AreTold (MayReply Of s) lines t last

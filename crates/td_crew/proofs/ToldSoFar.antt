@@ -1,4 +1,4 @@
--- What is told of the lines so far, at a desk.
+-- The answers to the lines so far, at a desk.
 use Rattle.std.proofs.Common.{◌≡◌, ℕ, ◌+◌, ◌≤◌, List, [], ◌∷◌, length, Option}
 use Rattle.std.proofs.Common.{None, Some, Bor, refl, sym, subst, arith}
 use Rattle.std.specs.Prelude.{string_bytes}
@@ -13,7 +13,7 @@ use Rattle.td_script.specs.Replies.{Setting}
 use Rattle.td_crew.specs.Replies.{MayReply}
 use Rattle.td_crew.specs.CrewText.{AreAnswered, AreTold, IsReplied, Told, told_with, untold}
 
--- whatever is told of what is left, with what was told so far it is told of the whole
+-- the answers so far, with any answers to the lines that are left, answer the whole script
 pub record IsSoFar (table : TableId) (origin : Origin) (opened : List Mark) (parts : ℕ)
     (s : Setting) (script : List ℕ)
     (receipts : List Receipt) (told : ToldText) (rest : Option (Bor (List ℕ))) : Type 0 where

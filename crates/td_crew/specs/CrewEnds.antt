@@ -19,7 +19,7 @@ use Rattle.td_script.specs.Telling.{Telling}
 use Rattle.td_crew.specs.declared.running.CrewFault.{CrewFault}
 use Rattle.td_crew.specs.declared.running.CrewFault.TheVariants.{BadOutcome, Run}
 
--- the lines that say how builds end: none where there is no text of them
+-- the lines that say how builds end: none if there is no text of them
 abbrev pub outcomes_of : Inputs → List (List ℕ)
 outcomes_of x = ended (lines_of (unwrap_or (option_map string_bytes x.outcomes) []))
 
@@ -27,8 +27,8 @@ outcomes_of x = ended (lines_of (unwrap_or (option_map string_bytes x.outcomes) 
 abbrev pub AreRead : List (List ℕ) → Type 0
 AreRead lines = (os : List (Key × Outcome)) × AreOutcomes lines os
 
--- what an end says: of the outcomes as soon as the files in front of them are fine, whatever the
--- journal behind them is, and of the rest as without them
+-- what an end says: of the outcomes as soon as the files before them are fine, whatever the journal
+-- after them is, and of the rest as if there were no outcomes
 abbrev pub CrewSays : Telling → Texts → List (List ℕ) → Option (List ℕ) → Option (List ℕ)
     → Option (List ℕ) → Result ScriptEnd CrewFault → Type 0
 CrewSays May x outcomes known old new (Ok end) =
@@ -38,19 +38,19 @@ CrewSays May x outcomes known old new (Err (BadOutcome n)) =
 CrewSays May x outcomes known old new (Err (Run e)) =
     (AreRead outcomes ⊎ IsRefusedBy (without_journal x) e) × SaysBy May x known old new (Err e)
 
--- why a crew's run over readable texts may stop, where the reader has a script and the outcomes are
+-- why a crew's run over readable texts may stop, if the reader has a script and the outcomes are
 -- read
 abbrev pub CrewMayStop : Texts → CrewFault → Type 0
 CrewMayStop x (BadOutcome n) = ⊥
 CrewMayStop x (Run e) = MayStop x e
 
--- why it may stop where they aren't: for a bad line of them, or memory runs out, or `regex` refuses
--- a pattern
+-- why a crew's run may stop if the outcomes aren't read: a bad line of them, memory runs out, or
+-- `regex` refuses a pattern
 abbrev pub UnreadMayStop : Texts → CrewFault → Type 0
 UnreadMayStop x (BadOutcome n) = Unit {0}
 UnreadMayStop x (Run e) = Stops x e
 
--- it stops for nothing else. Where the outcomes aren't read, the journal isn't asked for
+-- a crew's run stops for nothing else. If the outcomes aren't read, the journal isn't asked for
 pub record CrewOnly (x : Texts) (outcomes : List (List ℕ)) (known : Option (List ℕ))
     (result : Result ScriptEnd CrewFault) : Type 0 where
   pub read : (text : List ℕ) → known ≡ Some text → IsScriptText text → AreRead outcomes
@@ -60,7 +60,7 @@ pub record CrewOnly (x : Texts) (outcomes : List (List ℕ)) (known : Option (Li
 
 -- ---- as the code has it
 
--- the outcomes aren't read, or a file in front of them is refused
+-- the outcomes aren't read, or a file before them is refused
 abbrev pub IsNoOutcomes : Texts → List (List ℕ) → CrewFault → Type 0
 IsNoOutcomes x outcomes (BadOutcome n) = IsFirstBad outcomes n × AreFine (without_journal x)
 IsNoOutcomes x outcomes (Run e) = IsRefusedBy (without_journal x) e
@@ -70,7 +70,7 @@ abbrev pub StopsSo : Texts → CrewFault → Type 0
 StopsSo x (BadOutcome n) = ⊥
 StopsSo x (Run e) = Stops x e
 
--- why no outcomes are read: the fault of a file in front of them comes first
+-- why no outcomes are read: the fault of a file before them comes first
 abbrev pub unread_fault : Result (Unit {0}) RunFault → OutcomesFault → CrewFault
 unread_fault (Err e) fault = Run e
 unread_fault (Ok u) (bad.BadLine n) = BadOutcome n

@@ -27,13 +27,13 @@ use Rattle.td_crew.specs.Replies.{DeskReply, MayReply}
 
 -- ---- 1. the lines
 
--- what was told of lines: the text, how many were refused, and the receipts that the clerk got
+-- the answers to lines: the text, how many were refused, and the receipts that the clerk got
 pub record Told : Type 0 where
   pub text : List ℕ
   pub refused : ℕ
   pub receipts : List Receipt
 
--- of no line
+-- the answers to no line
 abbrev pub untold : Told
 untold = record { text = []; refused = zero; receipts = [] }
 
@@ -46,7 +46,7 @@ with_reply t r =
       receipts = t.receipts ++ r.receipts;
     }
 
--- lines are told one after the other, each by a reply that may be made to it by a clerk who has the
+-- lines are answered in their order, each by a reply that may be made to it by a clerk who has the
 -- receipts of those before it
 abbrev pub AreTold : (List Receipt → List ℕ → DeskReply → Type 0) → List (List ℕ) → Told → Told
     → Type 0
@@ -57,8 +57,8 @@ AreTold May (line ∷ lines) t last =
 -- ---- 2. the whole
 
 -- a book that may lie under the lock of the crew's desk: it has the crew's builders, its history
--- goes on with the one from which the script starts, over the same offers, and each entry that
--- stands applies where it stands
+-- goes on with the one from which the script starts, over the same offers, and each standing entry
+-- applies at its place
 pub record IsOfCrew (builders : ℕ) (s : Setting) (begun : History) (book : BookModel)
     : Type 0 where
   pub staffed : book.fixed.builders ≡ builders
@@ -67,7 +67,7 @@ pub record IsOfCrew (builders : ℕ) (s : Setting) (begun : History) (book : Boo
   pub on : GoesOn begun.journal book.history.journal
   pub lawful : Lawful book.history.opening (standing book.history.journal)
 
--- one with as many changes since the script's start as these receipts of lines
+-- a crew's book with as many changes since the script's start as these receipts of lines
 pub record IsOfCrewAt (builders : ℕ) (s : Setting) (begun : History) (receipts : List Receipt)
     (book : BookModel) : Type 0 where
   pub of_crew : IsOfCrew builders s begun book
@@ -83,18 +83,18 @@ IsHome builders s begun =
 abbrev pub rows_told : Table → List ℕ
 rows_told rows = ended (codes "rows") ++ state_text rows
 
--- closing a desk is a refusal where the receipts aren't the changes, each once
+-- closing a desk is a refusal if the receipts aren't the changes, each once
 abbrev pub IsClosing : List Receipt → List Receipt → ℕ → Type 0
 IsClosing receipts found refusals =
     ((refusals ≡ 0) × IsPermutation receipts found)
     ⊎ ((refusals ≡ 1) × (IsPermutation receipts found → ⊥))
 
--- the answers to the lines are told, each what some book of the crew's answers that has the changes
--- of the lines before it, and then the rows of a book of the crew's. What was undone when the script
--- started is undone in it still, and it has as many changes as the lines have receipts: none was
--- made that no line asks for. A refusal is a line that is refused, a builder who is missing, and a
--- closing if the receipts of the lines aren't the changes of the book. Builders who aren't missing
--- went home when no row waited for one
+-- the text has the answers to the lines, each what some book of the crew's answers that has the
+-- changes of the lines before it, and then the rows of a book of the crew's. What was undone when
+-- the script started is undone in it still, and it has as many changes as the lines have receipts:
+-- none was made that no line asks for. A refusal is a line that is refused, a builder who is
+-- missing, and a closing if the receipts of the lines aren't the changes of the book. Builders who
+-- aren't missing went home when no row waited for one
 pub record EndsWithRows (builders : ℕ) (s : Setting) (begun : History) (script text : List ℕ)
     (refused : ℕ) : Type 0 where
   pub told : Told
@@ -112,7 +112,7 @@ pub record EndsWithRows (builders : ℕ) (s : Setting) (begun : History) (script
   pub closed : IsClosing told.receipts (changes (map (λ m. m.mark) begun.journal) book) closing
   pub refused_is : refused ≡ told.refused + missing + closing
 
--- what a crew of so many builders may tell of a script from this history
+-- what a crew of this many builders may answer to a script from this history
 abbrev pub crew_tells : ℕ → Telling
 crew_tells builders s h script text refused = EndsWithRows builders s h script text refused
 
@@ -122,7 +122,7 @@ crew_tells builders s h script text refused = EndsWithRows builders s h script t
 abbrev pub HasBegun : Option (List ℕ) → Table → Type 0
 HasBegun given rows = (h : History) × IsBegun given rows h
 
--- the same, from whatever history a script over these rows starts
+-- a crew answers so from whatever history a script over these rows starts
 abbrev pub EndsFrom : ℕ → Setting → Option (List ℕ) → Table → List ℕ → ToldText → Type 0
 EndsFrom builders s given rows script told =
     (h : History) → IsBegun given rows h
@@ -133,29 +133,29 @@ abbrev pub marks_begun : Option (List ℕ) → List Mark
 marks_begun None = []
 marks_begun (Some text) = marks_in text
 
--- its text is one that can be counted
+-- the journal that is gone on with, if there is one, has a text that can be counted
 abbrev pub IsShort : Option (List ℕ) → Type 0
 IsShort given = IfSome given (λ text. length text < 2 ^ 64)
 
--- what was told, with the receipts of the clerk
+-- the answers, with the receipts of the clerk
 abbrev pub told_with : ToldText → List Receipt → Told
 told_with t receipts =
     record { text = string_bytes t.text; refused = t.refused; receipts = receipts }
 
--- a reply more, which a book of the desk may make to a clerk of so many parts
+-- a reply more, which a book of the desk may make to a clerk of this many parts
 abbrev pub IsReplied : TableId → Origin → List Mark → ℕ → Setting → List ℕ → Told → Told → Type 0
 IsReplied table origin opened parts s line old new =
     (r : DeskReply) × MayReply (IsMetBy table origin opened parts) s old.receipts line r
     × (new ≡ with_reply old r)
 
--- the lines are told so by a clerk of so many parts, who has no receipts before
+-- a clerk of this many parts, who has no receipts before, answers the lines so
 abbrev pub AreAnswered : TableId → Origin → List Mark → ℕ → Setting → List ℕ → List Receipt
     → ToldText → Type 0
 AreAnswered table origin opened parts s script receipts told =
     AreTold (MayReply (IsMetBy table origin opened parts) s) (lines_of script) untold
     (told_with told receipts)
 
--- and so many of the builders are missing
+-- the lines are answered so, and this many of the builders are missing
 pub record IsShift (table : TableId) (origin : Origin) (opened : List Mark) (parts : ℕ)
     (s : Setting) (script : List ℕ) (builders missing : ℕ) (receipts : List Receipt)
     (told : ToldText) : Type 0 where
@@ -166,13 +166,13 @@ pub record IsShift (table : TableId) (origin : Origin) (opened : List Mark) (par
   pub home : missing < builders → ∥ IsAtEnd table origin ∥₁
   pub refused_is : told.refused ≡ lines.refused + missing
 
--- the rows of a history are put behind what was told
+-- the rows of a history are put after the answers
 pub record HasRows (told : ToldText) (h : History) (now : ToldText) : Type 0 where
   pub text : string_bytes now.text ≡ string_bytes told.text ++ rows_told (rows_of h)
   pub lawful : Lawful h.opening (standing h.journal)
   pub refused : now.refused ≡ told.refused
 
--- those with which a desk is closed that was opened so, and a refusal where the receipts differ
+-- the rows of the book with which the desk is closed, and a refusal if the receipts differ
 pub record IsClosed (table : TableId) (origin : Origin) (opened : List Mark)
     (receipts : List Receipt) (told now : ToldText) : Type 0 where
   pub book : BookModel

@@ -4,7 +4,7 @@ use Rattle.std.specs.Borrow.{Bor}
 use Rattle.td_rows.specs.Table.{Table}
 use Rattle.td_book.specs.Desk.{Fixed}
 
--- where there are reports, they fit any book: whatever rows it opened with, and whatever no call
+-- if there are reports, they fit any book: whatever rows it opened with, and whatever no call
 -- changes of it
 abbrev pub FitAnyBook : {T : Type 0} → (T → Table → Fixed → Type 0) → Option (Bor T) → Type 0
 FitAnyBook fits reports =

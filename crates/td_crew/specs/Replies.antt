@@ -32,7 +32,7 @@ use Rattle.td_script.specs.Replies.{Reply, Setting, asks, ended, entry_made, fau
 use Rattle.td_script.specs.Replies.{refusal_line, skip_line, undo_name}
 use Rattle.td_crew.specs.declared.shown.Shown.{Shown}
 
--- what is said to a line: a text, whether the line is refused, and the receipts that the clerk got
+-- what a clerk says to a line: a text, whether the line is refused, and the receipts that it got
 pub record DeskReply : Type 0 where
   pub text : List ℕ
   pub refused : Bool
@@ -40,7 +40,7 @@ pub record DeskReply : Type 0 where
 
 -- ---- 1. replies in general
 
--- this is said, and nothing is changed
+-- the clerk says this, and nothing is changed
 abbrev pub tells : List ℕ → DeskReply
 tells text = record { text = text; refused = false; receipts = [] }
 
@@ -49,14 +49,14 @@ abbrev pub declines : List ℕ → List ℕ → DeskReply
 declines name behind =
     record { text = refusal_line name ++ behind; refused = true; receipts = [] }
 
--- the entry is made, and said with what follows it
+-- the entry is made, and the answer is its line with what follows it
 abbrev pub makes : ℕ → List Key → List ℕ → Receipt → DeskReply
 makes n keys behind receipt =
     record { text = entry_made n keys ++ behind; refused = false; receipts = receipt ∷ [] }
 
--- ---- 2. what a book answers, in words. Want of memory is no answer
+-- ---- 2. what a book answers, in words. Missing memory is no answer
 
--- to an undo
+-- a book's answer to an undo, in words
 abbrev pub IsOfUndo : ℕ → Result (Unit {0}) UndoRefusal → DeskReply → Type 0
 IsOfUndo n (Ok u) r =
     r ≡ record {
@@ -67,7 +67,7 @@ IsOfUndo n (Ok u) r =
 IsOfUndo n (Err undos.NoMemory) r = ⊥
 IsOfUndo n (Err e) r = r ≡ declines (undo_name e) []
 
--- to an arrival
+-- a book's answer to an arrival, in words
 abbrev pub IsOfArrival : Key → Result ℕ ArriveRefusal → DeskReply → Type 0
 IsOfArrival k (Ok n) r = r ≡ makes n (k ∷ []) [] (arrival_receipt k n)
 IsOfArrival k (Err arrivals.NoSuchRow) r = r ≡ declines (codes "NoSuchRow") []
@@ -75,7 +75,7 @@ IsOfArrival k (Err (arrivals.DoesNotApply s)) r =
     r ≡ declines (codes "DoesNotApply " ++ state_word s) []
 IsOfArrival k (Err arrivals.NoMemory) r = ⊥
 
--- the keys of the entry with a number, where a journal has it
+-- the keys of the entry with a number, if a journal has it
 abbrev pub keys_at : List Marked → ℕ → List Key
 keys_at ms n =
     elim (entry_at ms n) [
@@ -83,13 +83,13 @@ keys_at ms n =
       | None ↦ []
     ]
 
--- to a sweep: the keys are those of its entry in a book that is looked at behind it
+-- a book's answer to a sweep, in words: the keys are those of its entry in a book seen after it
 abbrev pub IsOfSweep : (ℕ → BookModel → Type 0) → Option ℕ → DeskReply → Type 0
 IsOfSweep Behind None r = r ≡ tells (ended (codes "nothing to sweep"))
 IsOfSweep Behind (Some n) r =
     (b : BookModel) × Behind n b × (r ≡ makes n (keys_at b.history.journal n) [] (Swept n))
 
--- to a command: its entry is on the rows that it names in the book without those that are skipped
+-- a book's answer to a command, in words: its entry is on the rows that it names and doesn't skip
 abbrev pub IsOfCommand : CommandParts → BookModel → Result Taken CommandRefusal → DeskReply → Type 0
 IsOfCommand c b (Ok t) r =
     r ≡ makes t.number (without (named_by c b) t.skips) (flat_map skip_line t.skips)
@@ -98,34 +98,34 @@ IsOfCommand c b (Err (commands.NothingApplies skips)) r =
     r ≡ declines (codes "NothingApplies") (flat_map skip_line skips)
 IsOfCommand c b (Err commands.NoMemory) r = ⊥
 
--- ---- 3. what may be said, where some books may lie under the desk's lock. Which ones hangs on the
+-- ---- 3. what may be said, if some books may lie under the desk's lock. Which ones depends on the
 -- receipts that the clerk has, since the book has as many changes
 
--- to an undo of entry n
+-- what may be said to an undo of entry n
 abbrev pub MayUndo : (BookModel → Type 0) → ℕ → DeskReply → Type 0
 MayUndo Of n r =
     (old : BookModel) × (new : BookModel) × (answer : Result (Unit {0}) UndoRefusal) × Of old
     × UndoTold n old new answer × IsOfUndo n answer r
 
--- to the arrival of a key's build
+-- what may be said to the arrival of a key's build
 abbrev pub MayArrive : (BookModel → Type 0) → Key → DeskReply → Type 0
 MayArrive Of k r =
     (old : BookModel) × (new : BookModel) × (answer : Result ℕ ArriveRefusal) × Of old
     × ArriveOutcome k old new answer × IsOfArrival k answer r
 
--- to a sweep: behind it the clerk has its receipt, too
+-- what may be said to a sweep: after it the clerk has its receipt, too
 abbrev pub MaySweep : (List Receipt → BookModel → Type 0) → List Receipt → DeskReply → Type 0
 MaySweep Of had r =
     (old : BookModel) × (new : BookModel) × (swept : Option ℕ) × Of had old
     × SweepOutcome old new (Ok swept) × IsOfSweep (λ n. Of (had ++ Swept n ∷ [])) swept r
 
--- to a command
+-- what may be said to a command
 abbrev pub MayCommand : (BookModel → Type 0) → CommandParts → DeskReply → Type 0
 MayCommand Of c r =
     (old : BookModel) × (new : BookModel) × (answer : Result Taken CommandRefusal) × Of old
     × IsDone c old new answer × IsOfCommand c old answer r
 
--- to what changes nothing: what a clerk alone would say over the book
+-- what may be said to what changes nothing: what a clerk without builders says over the book
 abbrev pub MayShow : (BookModel → Type 0) → (History → Reply) → DeskReply → Type 0
 MayShow Of reply r =
     (b : BookModel) × Of b
@@ -135,7 +135,7 @@ MayShow Of reply r =
       receipts = [];
     })
 
--- to a request
+-- what may be said to a request
 abbrev pub MayAnswer : (List Receipt → BookModel → Type 0) → Setting → List Receipt → Request
     → DeskReply → Type 0
 MayAnswer Of s had (Undo n) r = MayUndo (Of had) n r
@@ -143,12 +143,12 @@ MayAnswer Of s had (Arrive k) r = MayArrive (Of had) k r
 MayAnswer Of s had Sweep r = MaySweep Of had r
 MayAnswer Of s had q r = MayShow (Of had) (λ h. asks s h q) r
 
--- to what is typed: to the command that it is, or its first fault
+-- what may be said to what is typed: to the command that it is, or its first fault
 abbrev pub MayType : (BookModel → Type 0) → Result CommandParts CommandFault → DeskReply → Type 0
 MayType Of (Ok c) r = MayCommand Of c r
 MayType Of (Err fault) r = r ≡ declines (fault_name fault) []
 
--- to a line, by what it is
+-- what may be said to a line, by what it is
 abbrev pub MaySay : (List Receipt → BookModel → Type 0) → Setting → List Receipt → List ℕ → Said
     → DeskReply → Type 0
 MaySay Of s had line Skipped r = r ≡ tells []
@@ -156,7 +156,7 @@ MaySay Of s had line (Asked q) r = MayAnswer Of s had q r
 MaySay Of s had line Bad r = r ≡ declines (codes "BadLine") []
 MaySay Of s had line Typed r = MayType (Of had) (command_at s.stock.table s.suites line) r
 
--- to a line, by a clerk who has these receipts of the lines before it
+-- what may be said to a line by a clerk who has these receipts of the lines before it
 abbrev pub MayReply : (List Receipt → BookModel → Type 0) → Setting → List Receipt → List ℕ
     → DeskReply → Type 0
 MayReply Of s had line r = MaySay Of s had line (said_at line) r

@@ -27,7 +27,7 @@ use td_script::{
 };
 use td_wbread::Command;
 
-// The keys of the entry of which the clerk got a receipt last.
+// The keys of the entry for which the clerk got its last receipt.
 fn keys_made<C: Ledger>(clerk: &Clerk<C>) -> &[Key]
     ensures { (before : List ReceiptValue) (n : ℕ) (kind : Kind) (keys : List KeyValue)
         → clerk.now.receipts ≡ before ++ Made n kind keys ∷ [] → result.now ≡ keys }
@@ -38,7 +38,7 @@ fn keys_made<C: Ledger>(clerk: &Clerk<C>) -> &[Key]
     }
 }
 
-/// Appends the answer to a command. Its entry is told by the receipt.
+/// Appends the answer to a command. The receipt has its entry.
 #[tactic(auto, using(crate::proofs::Replied::parts_commanded))]
 pub fn command<N: Named, C: Ledger, R: Wait>(
     rt: &R,
@@ -133,8 +133,8 @@ fn sweep<N: Named, C: Ledger, R: Wait>(
     Ok(false)
 }
 
-/// Appends the answer to a request. The clerk gives none of its parts away: no call is made
-/// besides.
+/// Appends the answer to a request. The clerk gives none of its parts away: no other call is
+/// made.
 pub fn ask<N: Named, C: Ledger, T: Reports, R: Wait>(
     rt: &R,
     desk: &Desk<'_, N, C>,

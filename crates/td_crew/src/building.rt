@@ -2,10 +2,11 @@
 ghost use Rattle.std.specs.Prelude.{OnOk};
 ghost use Rattle.td_builder.specs.Floors.{IsIdle};
 
+use crate::ends::Stopped;
 use crate::shift::Shift;
 use std::sync::Wait;
 use std::sync::ledger::Ledger;
-use td_builder::{Builds, WorkStop, work};
+use td_builder::{Builds, work};
 use td_desk::{Hired, Home, Named};
 
 // One builder, until it may go home, without a row, or stops.
@@ -14,7 +15,7 @@ fn build<N: Named, C: Ledger, B: Builds, R: Wait>(
     shift: &Shift<'_, '_, N, C>,
     hired: &mut Hired<N>,
     builds: &mut B,
-) -> Result<Home<N>, WorkStop>
+) -> Result<Home<N>, Stopped<N>>
     ensures { OnOk result (IsIdle hired.new.seat) }
 {
     for _ in rt.forever() {
@@ -26,7 +27,8 @@ fn build<N: Named, C: Ledger, B: Builds, R: Wait>(
     unreachable!()
 }
 
-/// One builder, in its thread: it builds, and then goes home, or says that memory is wanting.
+/// One builder, in its thread: it builds, and is counted, with its seat, by what its work ended
+/// with. That can't be let go, and there is one seat, so no builder is counted as anything else.
 pub fn serve<N: Named, C: Ledger, B: Builds + Copy, R: Wait>(
     rt: &R,
     shift: &Shift<'_, '_, N, C>,
@@ -34,9 +36,6 @@ pub fn serve<N: Named, C: Ledger, B: Builds + Copy, R: Wait>(
     builds: B,
 ) {
     let (mut hired, mut builds) = (hired, builds);
-    match build(rt, shift, &mut hired, &mut builds) {
-        Ok(home) => shift.go_home(rt, home, hired),
-        Err(WorkStop::NoMemory) => shift.want_memory(),
-        Err(WorkStop::Mismatch) => {}
-    }
+    let end = build(rt, shift, &mut hired, &mut builds);
+    shift.count(rt, end, hired);
 }

@@ -1,4 +1,4 @@
-//! A crew: a clerk beside builders.
+//! A crew: a clerk with builders.
 ghost use Rattle.std.specs.Prelude.{◌≡◌, ◌+◌, ◌-◌, ◌≤◌, ◌<◌, ◌^◌, ◌∷◌, [], All, Err, IfErr, IfOk};
 ghost use Rattle.std.specs.Prelude.{OnOk, length, option_map, string_bytes, true};
 ghost use Rattle.td_desk.specs.Clerks.{all_parts, all_receipts};
@@ -37,7 +37,7 @@ use td_rows::{Rows, rows_text};
 use td_script::{Asked, Reports, Staff, Told};
 use td_supply::Supply;
 
-/// A clerk beside so many builders.
+/// A clerk with this many builders.
 #[derive(Clone, Copy)]
 pub struct Crew {
     pub builders: usize,
@@ -50,7 +50,7 @@ impl Staff for Crew {
     ghost tells = { λ crew. crew_tells crew.builders };
 }
 
-// What is told of the lines, and the clerk with the receipts of them; and that the desk is shut
+// The answers to the lines, and the clerk with its receipts for them; and that the desk is shut
 // then, also if memory ran out.
 fn tell_all<N: Named, C: Ledger, T: Reports, R: Wait>(
     rt: &R,
@@ -119,8 +119,8 @@ fn tell_beside<N: Named + Send + Sync, C: Ledger + Send + Sync, T: Reports>(
     )
 }
 
-// What is told of the lines beside builders on these seats, the clerk with the receipts of them,
-// and who went home. Each builder who is missing is a refusal.
+// The answers to the lines with builders on these seats, the clerk with its receipts for them, and
+// who went home. Each builder who is missing is a refusal.
 fn tell_in_shift<N: Named + Send + Sync, C: Ledger + Send + Sync, T: Reports>(
     rt: &(impl Threads + Wait + Sync),
     desk: &Desk<'_, N, C>,
@@ -156,7 +156,7 @@ fn tell_in_shift<N: Named + Send + Sync, C: Ledger + Send + Sync, T: Reports>(
     }
 }
 
-// Puts the rows of a book behind what was told.
+// Appends the rows of a book to the answers.
 fn tell_rows(alloc: Global, told: Told, book: &Book<'_>) -> Result<Told, AllocError>
     ensures { IfOk result (HasRows told book.now.history) }
 {
@@ -167,7 +167,7 @@ fn tell_rows(alloc: Global, told: Told, book: &Book<'_>) -> Result<Told, AllocEr
     Ok(told)
 }
 
-// A list of this clerk alone.
+// A list of only this clerk.
 fn alone<C: Ledger>(alloc: Global, clerk: Clerk<C>) -> Result<Vec<Clerk<C>>, AllocError>
     ensures { IfOk result (λ clerks. clerks.items ≡ clerk ∷ []) }
 {
@@ -176,7 +176,7 @@ fn alone<C: Ledger>(alloc: Global, clerk: Clerk<C>) -> Result<Vec<Clerk<C>>, All
     Ok(clerks)
 }
 
-// The book with which a desk is closed, and how many refusals that is: one where the receipts of
+// The book with which a desk is closed, and how many refusals that is: one if the receipts of
 // these clerks differ from the book's changes.
 fn closed<'a, N: Named, C: Ledger>(desk: Desk<'a, N, C>, clerks: Vec<Clerk<C>>) -> (Book<'a>, u64)
     ensures of_desk { IsOfDesk N.table N.origin result.0 }
@@ -194,7 +194,7 @@ fn closed<'a, N: Named, C: Ledger>(desk: Desk<'a, N, C>, clerks: Vec<Clerk<C>>) 
     (book, refusals)
 }
 
-// Puts the rows behind with which the desk is closed.
+// Closes the desk, and appends the rows of its book to the answers.
 fn close<N: Named, C: Ledger>(
     alloc: Global,
     desk: Desk<'_, N, C>,
@@ -220,7 +220,7 @@ fn close<N: Named, C: Ledger>(
     told
 }
 
-// What a crew at this desk tells of a script.
+// What a crew at this desk answers to a script.
 fn tell_at<N: Named + Send + Sync, C: Ledger + Send + Sync, T: Reports>(
     rt: &(impl Threads + Wait + Sync),
     desk: Desk<'_, N, C>,
@@ -291,7 +291,7 @@ fn begin<'a, N: Named, C: Ledger>(
     }
 }
 
-// What a crew tells of a script at a desk, if one was begun.
+// What a crew answers to a script at a desk, if one was begun.
 fn tell_if_begun<N: Named + Send + Sync, C: Ledger + Send + Sync, T: Reports>(
     rt: &(impl Threads + Wait + Sync),
     begun: Result<(Desk<'_, N, C>, Clerk<C>), ReadError>,
@@ -323,7 +323,7 @@ fn tell_if_begun<N: Named + Send + Sync, C: Ledger + Send + Sync, T: Reports>(
     }
 }
 
-// What a crew at the named board tells of a script.
+// What a crew at the named board answers to a script.
 fn tell_named<N: Named + Send + Sync, C: Ledger + Send + Sync, T: Reports>(
     rt: &(impl Threads + Wait + Sync),
     board: Board,
@@ -368,7 +368,7 @@ fn tell_named<N: Named + Send + Sync, C: Ledger + Send + Sync, T: Reports>(
     tell_if_begun(rt, begun, seats, builds, lines)
 }
 
-/// What a crew tells of a script from these rows, or from the journal over them that is gone on
+/// What a crew answers to a script from these rows, or from the journal over them that is gone on
 /// with. Each of its builders builds in this way, which is its own.
 pub fn tell_script<B: Builds + Copy + Send + Sync, R: Threads + Wait + Sync>(
     rt: &R,

@@ -1,11 +1,11 @@
-//! The lines of a script, and by what a clerk answers them.
+//! The lines of a script, and what a clerk answers them with.
 ghost use Rattle.std.specs.Prelude.{◌<◌, ◌^◌, ◌-◌, length};
 
 use std::alloc::Global;
 use td_relation::Archs;
 use td_script::Reports;
 
-/// The lines that a clerk answers, and by what. That the reports fit any book is no field of it:
+/// The lines that a clerk answers, and with what. That the reports fit any book is no field of it:
 /// what `fits` says is left to `Reports`, and a ghost field has to be known as a proposition. So
 /// each call asks for it, by `FitAnyBook`.
 #[derive(Drop)]

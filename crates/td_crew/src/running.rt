@@ -23,14 +23,14 @@ use td_script::{Asked, Inputs, RunFault, ScriptEnd, Told, judge_files, run_with}
 #[derive(Clone, Copy, Debug, PartialEq, Eq, Drop)]
 pub enum CrewFault {
     /// The first line of the outcomes that isn't one. The faults of the other files come before it,
-    /// but for those of the journal.
+    /// except those of the journal.
     BadOutcome(usize),
     Run(RunFault),
 }
 
-/// Answers the script that the reader has, over what the inputs say, beside as many builders as
+/// Answers the script that the reader has, over what the inputs say, with as many builders as
 /// they say, each of whom builds in this way. Then the desk is shut, the builders are joined, and
-/// the rows are told.
+/// the rows are written.
 /// All is read and answered before anything is written.
 pub fn run_crew_with<
     R: Reader,
@@ -78,7 +78,7 @@ fn lines_in(inputs: &Inputs) -> &str
     }
 }
 
-// Why no outcomes are read, by what is told of the files before them.
+// Why no outcomes are read, by how the files before them were judged.
 fn why_unread(judged: Result<(), RunFault>, fault: OutcomesFault) -> CrewFault
     ensures { result ≡ unread_fault judged fault }
 {
@@ -91,7 +91,7 @@ fn why_unread(judged: Result<(), RunFault>, fault: OutcomesFault) -> CrewFault
     }
 }
 
-// Why no outcomes are read. The other files come before them, and the journal behind.
+// Why no outcomes are read. The other files come before them, and the journal after them.
 fn no_outcomes(
     rt: &(impl Threads + Sync),
     alloc: Global,
@@ -118,7 +118,7 @@ fn ended(end: Result<ScriptEnd, RunFault>) -> Result<ScriptEnd, CrewFault>
     }
 }
 
-/// The same where builds end as the lines of the outcomes say.
+/// Answers the reader's script with builders whose builds end as the lines of the outcomes say.
 pub fn run_crew<R: Reader, W: Writer, H: Threads + Wait + Sync>(
     rt: &H,
     alloc: Global,

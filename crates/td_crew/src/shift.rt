@@ -7,53 +7,41 @@ ghost use Rattle.td_builder.specs.Floors.{IsHolding, IsFinished, IsIdle, IsRefus
 ghost use Rattle.td_desk.specs.Calls.{IsOfDesk, Starting, Finishing, MayStart, MayBeReady};
 ghost use Rattle.td_desk.specs.Calls.{IsAtEnd, MayEnd, MayBreakOff};
 
+use crate::ends::{Ends, Stopped};
 use std::alloc::AllocError;
-use std::sync::atomic::{AtomicBool, Ordering};
 use std::sync::ledger::Ledger;
 use std::sync::{Mutex, Wait};
 use td_board::BuilderSeat;
-use td_builder::Floor;
+use td_builder::{Floor, WorkStop};
 use td_desk::{Desk, Ended, Hired, Home, Homes, Named, Started};
 use td_rows::Outcome;
 
 /// A desk as its builders see it. Once a builder has stopped for memory, `ready` says to the others
-/// that memory is wanting: the row in that builder's hand would keep them busy for good.
+/// that memory ran out: the row in that builder's hand would keep them busy for good.
 #[derive(Drop)]
 pub struct Shift<'d, 'a, N: Named, C: Ledger> {
     pub desk: &'d Desk<'a, N, C>,
-    // Whether a builder stopped for memory.
-    wants_memory: AtomicBool,
-    // Who has gone home.
-    homes: Mutex<Homes<N>>,
+    ends: Mutex<Ends<N>>,
 }
 
 impl<'d, 'a, N: Named, C: Ledger> Shift<'d, 'a, N, C> {
     pub fn new(desk: &'d Desk<'a, N, C>, homes: Homes<N>) -> Shift<'d, 'a, N, C> {
         Shift {
             desk,
-            wants_memory: AtomicBool::new(false),
-            homes: Mutex::new(homes),
+            ends: Mutex::new(Ends::new(homes)),
         }
     }
 
-    /// A builder stopped for memory.
-    pub fn want_memory(&self) {
-        self.wants_memory.store(true, Ordering::SeqCst);
-    }
-
-    /// A builder goes home. It has no row, and leaves its seat.
-    pub fn go_home<R: Wait>(&self, rt: &R, home: Home<N>, hired: Hired<N>)
-        requires { IsIdle hired.seat }
+    /// Counts a builder by how its work ended. It leaves its seat; one that goes home has no row.
+    pub fn count<R: Wait>(&self, rt: &R, end: Result<Home<N>, Stopped<N>>, hired: Hired<N>)
+        requires { OnOk end (IsIdle hired.seat) }
     {
-        self.homes.lock(rt).add(home, hired);
+        self.ends.lock(rt).count(end, hired);
     }
 
-    /// Who has gone home, once no builder has a thread any more. Of want of memory none is told.
+    /// Who has gone home, once no builder has a thread any more; an error if one lacked memory.
     pub fn end(self) -> Result<Homes<N>, AllocError> {
-        if self.wants_memory.load(Ordering::SeqCst) {
-            return Err(AllocError);
-        }
-        Ok(self.homes.into_inner())
+        self.ends.into_inner().end()
     }
 }
 
@@ -65,6 +53,8 @@ impl<'d, 'a, N: Named, C: Ledger> Floor for Shift<'d, 'a, N, C> {
     type Started = Started<N>;
 
     type Ended = Ended<N>;
+
+    type Stopped = Stopped<N>;
 
     ghost table = { λ s. N.table };
 
@@ -80,13 +70,15 @@ impl<'d, 'a, N: Named, C: Ledger> Floor for Shift<'d, 'a, N, C> {
 
     ghost ended = { λ s. IsAtEnd N.table N.origin };
 
-    ghost stopped = { λ s stop. Unit {0} };
+    ghost stopped = { λ s why. Unit {0} };
+
+    ghost reason = { λ stopped. stopped.why };
 
     fn ready<R: Wait>(&self, rt: &R) -> Result<Vec<usize>, AllocError>
         ensures offered { IfOk result (λ numbers. MayBeReady N.table N.origin numbers.items) }
         ensures err { OnErr result (Unit {0}) }
     {
-        if self.wants_memory.load(Ordering::SeqCst) {
+        if self.ends.lock(rt).want_memory() {
             return Err(AllocError);
         }
         self.desk.ready(rt)
@@ -125,5 +117,9 @@ impl<'d, 'a, N: Named, C: Ledger> Floor for Shift<'d, 'a, N, C> {
         ensures ended { OnSome result (IsAtEnd N.table N.origin) }
     {
         Floor::wait_for_work(self.desk, rt)
+    }
+
+    fn stop<R: Wait>(&self, rt: &R, why: WorkStop) -> Stopped<N> {
+        self.ends.lock(rt).stop(why)
     }
 }

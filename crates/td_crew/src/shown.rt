@@ -141,7 +141,7 @@ pub fn journal<N: Named, C: Ledger, R: Wait>(
     put_shown(out, shown)
 }
 
-// What tells the report of a book's rows, where there is a tracker.
+// What makes the report of a book's rows, if there is a tracker.
 #[derive(Drop)]
 struct Reporter<'r, T: Reports> {
     alloc: Global,
@@ -166,7 +166,7 @@ impl<T: Reports> Looks<Result<Shown, AllocError>> for Reporter<'_, T> {
     }
 }
 
-/// Appends the report of the rows, where there is a tracker. The reports fit any book.
+/// Appends the report of the rows, if there is a tracker. The reports fit any book.
 pub fn report<N: Named, C: Ledger, T: Reports, R: Wait>(
     rt: &R,
     desk: &Desk<'_, N, C>,
@@ -189,7 +189,7 @@ pub fn report<N: Named, C: Ledger, T: Reports, R: Wait>(
     put_shown(out, shown)
 }
 
-/// The line of an entry that a sweep made, by the journal of a book behind it.
+/// The line of an entry that a sweep made, by the journal of a book after it.
 pub fn swept_in(alloc: Global, book: &Book<'_>, n: EntryNo) -> Result<String, AllocError>
     ensures { IfOk result (λ text. string_bytes text
         ≡ entry_made n (keys_at book.now.history.journal n)) }

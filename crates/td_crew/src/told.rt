@@ -1,4 +1,4 @@
-//! What is told of a script at a desk: the answers to its lines, one after the other.
+//! The answers to the lines of a script at a desk, one after the other.
 ghost use Rattle.std.specs.Prelude.{◌≡◌, ◌+◌, ◌≤◌, ◌<◌, ◌^◌, [], IfOk, OnOk, length};
 ghost use Rattle.td_relation.specs.TableView.{table};
 ghost use Rattle.td_script.specs.Settings.{setting_lent};
@@ -14,7 +14,7 @@ use td_desk::{Clerk, Desk, Named};
 use td_script::{Reports, Told};
 use td_text::next_line;
 
-// One line more.
+// Answers one line more.
 fn add_line<N: Named, C: Ledger, T: Reports, R: Wait>(
     rt: &R,
     desk: &Desk<'_, N, C>,

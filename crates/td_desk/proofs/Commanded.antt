@@ -15,7 +15,7 @@ use Rattle.td_desk.specs.Clerks.{ClerkModel, with_receipt}
 use Rattle.td_desk.specs.Calls.{Commanding, IsMetBy, IsOfDesk, command_receipt}
 use Rattle.td_desk.specs.Names.{Origin}
 
--- a clerk whose share counts its receipts meets a book with as many changes, where it has all parts
+-- a clerk whose share counts its receipts meets a book with as many changes, if it has all parts
 pub met : (table : TableId) (origin : Origin) (opened : List Mark) (clerk : ClerkModel)
     (book locked : BookModel) (share amount all parts : ℕ) (receipts : List Receipt)
     → IsOfDesk table origin book → book ≡ locked

@@ -50,7 +50,7 @@ stays_out k ks (s ∷ ss) h =
     ap (λ b. if b then left_out ks ss else k ∷ left_out ks (s ∷ ss))
     (same_key-apart k s (below-apart k s p.0))
 
--- of rising keys those are left out that pass a test, in one pass
+-- to leave the keys that pass a test out of rising keys leaves those that fail it, in one pass
 left_others : (q : Key → Bool) (ks : List Key) → ascending ks ≡ true
     → left_out ks (filter q ks) ≡ filter (λ k. not (q k)) ks
 left_others q [] h = refl
@@ -67,7 +67,7 @@ left_others q (k ∷ ks) h =
           ∙ ap (λ (l : List Key). k ∷ l) rest
     ]
 
--- a key is among those that pass where it is among all and passes
+-- a key is among those that pass if and only if it is among all and passes
 names_passing : (q : Key → Bool) (ks : List Key) (k : Key)
     → names (filter q ks) k ≡ (names ks k && q k)
 names_passing q [] k = refl
@@ -151,7 +151,7 @@ without_taken p t kind ks =
     (skipped_are p t (filter (is_skipped p t kind) ks))
     ∙ (others (is_skipped p t kind) ks ks (λ k h. h) ∙ takes_unskipped p t kind ks)
 
--- ---- 3. its receipt
+-- ---- 3. the receipt of a command
 
 commands_made : (c : CommandParts) (n : ℕ) (keys : List Key)
     → made_of n (kind_of c) keys ≡ Made n (kind_of c) keys

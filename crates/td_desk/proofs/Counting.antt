@@ -63,7 +63,7 @@ changes-append n (m ∷ ms) ks (o ∷ os) h =
 
 -- ---- 2. entries that are no clerk's: claims and outcomes
 
--- a journal with some of them more, at most so many
+-- a journal with more claims and outcomes, at most this many
 pub record Notes (old new : List Marked) (most : ℕ) : Type 0 where
   pub more : List Marked
   pub at : new ≡ old ++ more
@@ -256,7 +256,7 @@ still_undid os n ms still = still-undone ms (n - 1) os still
 pub long_undid : (n : ℕ) (ms : List Marked) → length (undone ms n) ≡ length ms
 long_undid n ms = length-undone_at ms (n - 1)
 
--- ---- 5. how many there are
+-- ---- 5. how many changes there are
 
 pub one_more : (r : Receipt) (old new : List Receipt) → IsPermutation (r ∷ old) new
     → length new ≡ length old + 1

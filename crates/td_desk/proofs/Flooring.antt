@@ -60,7 +60,7 @@ ended_seat : (ends : BuilderModel → Outcome → Type 0) (o : Outcome) (s t : B
 ended_seat ends o s t i may hand at is =
     (i, hand, may, (λ j. record { table = at j; builder = is j }))
 
--- by the answer, of a row that is held
+-- the end of a build does this to a seat that holds a row, by the answer to it
 finished_held : (table : TableId) (origin : Origin) (o : Outcome) (s t : BuilderModel) (i : ℕ)
     (old new : BookModel) (r : Result ℕ FinishRefusal) → IsOfDesk table origin old
     → s.builder.hand ≡ Holding i → t.table ≡ s.table
@@ -114,7 +114,7 @@ kept_or_finished table origin o s t r (i, hand) at (old, new, of, inr is) =
     subst (λ h. FinishOutcome h o s.builder t.builder old new r) hand is in
     refused_held table origin o s t i old new r of hand at f
 
--- one who gets what it goes home with has seen the end
+-- a builder who gets what it goes home with has seen the end
 pub at_end : {A : Type 0} (table : TableId) (origin : Origin) (home : Option A)
     → (book : BookModel) × IsOfDesk table origin book
     × (is_none home ≡ is_any_queued (rows_of book.history))

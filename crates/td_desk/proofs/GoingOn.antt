@@ -50,7 +50,7 @@ take-within (suc n) [] ys h = absurd (let e : zero ≡ suc n = h in cc)
 take-within (suc n) (x ∷ xs) ys h =
     ap (λ es. x ∷ es) (take-within n xs ys (let e = h in omega arith))
 
--- what was there first stays first
+-- the entries that were first stay first
 goes_on-extends : (before old new : List Marked) → GoesOn before old → Extends old new
     → GoesOn before new
 goes_on-extends before old new on e =

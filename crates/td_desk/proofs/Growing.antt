@@ -54,7 +54,7 @@ pub record Kept (os : List Mark) (old new : BookModel) (most : ℕ) : Type 0 whe
   pub on : Extends old.history.journal new.history.journal
   pub same : changes os new ≡ changes os old
 
--- it has one change more
+-- the book has one change more than before
 pub record Grown (os : List Mark) (r : Receipt) (old new : BookModel) (most : ℕ) : Type 0 where
   pub fixed : new.fixed ≡ old.fixed
   pub still : still_undone new.history.journal os ≡ true

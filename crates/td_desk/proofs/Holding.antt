@@ -13,7 +13,7 @@ use Rattle.td_desk.proofs.Counting.{one_more}
 use Rattle.td_desk.proofs.GoingOn.{Extends, begins-on}
 use Rattle.td_desk.proofs.Growing.{Kept, Grown}
 
--- the journal gets at most so many entries, and there are ticks for these
+-- the journal gets at most this many entries, and there are ticks for these
 held_on : {table : TableId} {origin : Origin} {opened : List Mark} {old new : BookModel}
     {total sum n : ℕ} {had has : List Tick} (most : ℕ) → IsHeld table origin opened old total had
     → n ≡ length old.history.journal → (AreBegun opened n had → AreBegun opened n has)

@@ -193,7 +193,7 @@ begun_named opening text table stock builders b small r = record {
   are = marks_told opening text r.journal small r.reads;
 }
 
--- ticks that are those of the entries of then
+-- ticks that are those of the entries of the opening
 pub begun_few : (os : List Mark) (ts : List Tick) → ts ≡ map begun_at os → AreBegun os 0 ts
 begun_few os ts is =
     let none : length ts - length os ≡ 0 = omega (arith, ap length is, length-map os begun_at) in (

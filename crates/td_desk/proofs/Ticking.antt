@@ -165,7 +165,7 @@ left_tick n (suc i) k (x ∷ ms) (y ∷ ts) m t t' r at in-ms in-ts one-m one-t 
     (left_tick (suc n) i k ms ts m t t' r (omega (arith, at)) (omega (arith, in-ms))
     (omega (arith, in-ts)) one-m one-t h)
 
--- or it doesn't, and then none does
+-- if the entry of index i doesn't take the receipt, none does
 pub left_none : (n i k : ℕ) (ms : List Marked) (ts : List Tick) (m : Marked) (t : Tick)
     (r : Receipt) → k ≡ n + i → i < length ms → i < length ts → m ≡ get_or ms i m
     → t ≡ get_or ts i t → number_of r ≡ k
@@ -230,7 +230,7 @@ all_left ms ts os (is, long) =
     ∙ left_begun 1 (length ts - length os) ms os
     (subst (λ (l : List Tick). length ms ≤ length l) is long)
 
--- ---- 5. with each tick set, none is
+-- ---- 5. with each tick set, none is left
 
 nil_append : (xs ys : List Receipt) → is_nil (xs ++ ys) ≡ (is_nil xs && is_nil ys)
 nil_append [] ys = refl
@@ -346,7 +346,7 @@ too_many_clerk cs i c old mid h at a many =
 pub too_many : (rs cs : List Receipt) → TooMany rs cs → IsPermutation rs cs → ⊥
 too_many rs cs (r, less) p = omega (arith, less, times_permutation r rs cs p)
 
--- all are taken: they are the changes where nothing is left
+-- all receipts are taken: they are the changes if nothing is left
 pub all_taken : (rs cs new : List Receipt) (b : Bool) → Takes rs cs new → is_nil new ≡ b → b ≡ true
     → IsPermutation rs cs
 all_taken rs cs [] b a is h = subst (λ l. IsPermutation l cs) (append-nil rs) a

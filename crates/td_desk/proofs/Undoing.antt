@@ -1,4 +1,4 @@
--- What the book answers to an undo, and what is told of that.
+-- What the book answers to an undo, and what the desk answers then.
 use Rattle.std.proofs.Common.{◌≡◌, ℕ, Option, None, Result, sym, subst}
 use Rattle.td_book.specs.declared.undoing.UndoRefusal.{UndoRefusal}
 use Rattle.td_book.specs.Desk.{BookModel}
@@ -12,7 +12,7 @@ pub standing_answer : (n : ℕ) (old new : BookModel) (result : Result (Unit {0}
 standing_answer n old new result stop is =
     subst (λ (x : Option UndoRefusal). UndoAnswer x n old new result) (sym stop) is
 
--- what is told as the answer is that answer
+-- an answer that equals the desk's is the desk's
 pub told_on : (n : ℕ) (old new : BookModel) (answer told : Result (Unit {0}) UndoRefusal)
     → told ≡ answer → UndoTold n old new answer → UndoTold n old new told
 told_on n old new answer told same is =

@@ -76,63 +76,63 @@ pub record IsOfDesk (table : TableId) (origin : Origin) (book : BookModel) : Typ
   pub began : Begins origin book.history.journal
   pub lawful : Lawful book.history.opening (standing book.history.journal)
 
--- a book that a clerk of so many parts of the ledger may meet, with these receipts: one of the desk.
--- If the clerk has all parts, it has as many changes since its opening as the clerk has receipts
+-- a book of the desk that a clerk of this many parts of the ledger, with these receipts, may meet.
+-- If the clerk has all parts, the book has as many changes since its opening as there are receipts
 pub record IsMetBy (table : TableId) (origin : Origin) (opened : List Mark) (parts : ℕ)
     (receipts : List Receipt) (book : BookModel) : Type 0 where
   pub of_desk : IsOfDesk table origin book
   pub counted : parts ≡ 1024 → length receipts ≡ length (changes opened book)
 
--- a command's, where some books may be met, and the clerk's receipt where it is accepted
+-- the answer to a command, if some books may be met, and the clerk's receipt if it is accepted
 abbrev pub Commanding : CommandParts → (BookModel → Type 0) → ClerkModel → ClerkModel
     → Result Taken CommandRefusal → Type 0
 Commanding c Met clerk after result =
     (old : BookModel) × (new : BookModel) × Met old × IsDone c old new result
     × IfOk result (λ t. after ≡ with_receipt (command_receipt c old t) clerk)
 
--- what a book answers to the undo of entry n; but where memory is wanting before it is undone, an
--- undo that the marks don't refuse is told so, and all stays
+-- what a book answers to the undo of entry n; but if memory runs out before it is undone, an undo
+-- that the marks don't refuse is answered so, and all stays
 abbrev pub UndoTold : ℕ → BookModel → BookModel → Result (Unit {0}) UndoRefusal → Type 0
 UndoTold n old new result =
     ((result ≡ Err undos.NoMemory) × (undo_stop old.history.journal n ≡ None) × (new ≡ old))
     ⊎ UndoAnswer (undo_stop old.history.journal n) n old new result
 
--- an undo's: what such a book answers to it so
+-- the answer to an undo: what a book that may be met answers to it so
 abbrev pub Undoing : ℕ → (BookModel → Type 0) → Result (Unit {0}) UndoRefusal → Type 0
 Undoing n Met result =
     (old : BookModel) × (new : BookModel) × Met old × UndoTold n old new result
 
--- an arrival's: what such a book answers to the arrival of this key's build
+-- the answer to an arrival: what a book that may be met answers to that of this key's build
 abbrev pub Arriving : Key → (BookModel → Type 0) → Result ℕ ArriveRefusal → Type 0
 Arriving k Met result =
     (old : BookModel) × (new : BookModel) × Met old × ArriveOutcome k old new result
 
--- a sweep's: what such a book answers to it
+-- the answer to a sweep: what a book that may be met answers to it
 abbrev pub Sweeping : (BookModel → Type 0) → Result (Option ℕ) AllocError → Type 0
 Sweeping Met result = (old : BookModel) × (new : BookModel) × Met old × SweepOutcome old new result
 
--- a start's: what such a book answers to the builder of this seat, by its hand
+-- the answer to a start: what a book of the desk answers to the builder of this seat, by its hand
 abbrev pub Starting : BuilderModel → TableId → Origin → Result Job StartRefusal → Type 0
 Starting seat table origin result =
     (old : BookModel) × (new : BookModel) × IsOfDesk table origin old
     × StartOutcome seat.builder.number seat.builder.hand old new result
 
--- what a book answers to a finish with this outcome, and the builder after it; but where memory is
--- wanting before the book is asked, a builder whose hand isn't free is told so, and all stays
+-- what a book answers to a finish with this outcome, and the builder after it; but if memory runs
+-- out before the book is asked, a builder whose hand isn't free is told so, and all stays
 abbrev pub FinishTold : Outcome → BuilderView → BuilderView → BookModel → BookModel
     → Result ℕ FinishRefusal → Type 0
 FinishTold outcome v w old new result =
     ((result ≡ Err finishes.NoMemory) × (v.hand ≢ Free) × (new ≡ old) × (w ≡ v))
     ⊎ FinishOutcome v.hand outcome v w old new result
 
--- a finish's: what such a book answers to it so
+-- the answer to a finish: what a book of the desk answers to it so
 abbrev pub Finishing : Outcome → BuilderModel → BuilderModel → TableId → Origin
     → Result ℕ FinishRefusal → Type 0
 Finishing outcome seat after table origin result =
     (old : BookModel) × (new : BookModel) × IsOfDesk table origin old
     × FinishTold outcome seat.builder after.builder old new result
 
--- ---- 3. what builders are told
+-- ---- 3. what may be answered to builders
 
 -- which numbers may be offered to builders: those of the rows that need a build in a book of the
 -- desk, in their order
@@ -147,7 +147,7 @@ MayStart table origin s job =
     (row : ℕ) × (b : BookModel) × (s.builder.hand ≡ Holding row) × IsOfDesk table origin b
     × IsJobAt row b job
 
--- a book of the desk was told by the builder of a seat, as it stood, that the build of the row in
+-- a book of the desk was told by the builder of a seat, as it was, that the build of the row in
 -- hand ended with this outcome, text included, and the builder's build ended; it answered so
 abbrev pub IsToldEnd : TableId → Origin → BuilderModel → Outcome → Result ℕ FinishRefusal → Type 0
 IsToldEnd table origin s outcome answer =
@@ -155,12 +155,12 @@ IsToldEnd table origin s outcome answer =
     × IsOfDesk table origin old
     × FinishHeld row outcome s.builder (with_finish row (code_of outcome) s.builder) old new answer
 
--- with which outcomes the build of the row in a seat's hand may end: a book of the desk was told so,
--- and journalled it
+-- the outcomes with which the build of the row in a seat's hand may end: a book of the desk was
+-- told so, and journalled it
 abbrev pub MayEnd : TableId → Origin → BuilderModel → Outcome → Type 0
 MayEnd table origin s outcome = (n : ℕ) × IsToldEnd table origin s outcome (Ok n)
 
--- with which it may break off: a book of the desk was told so, and refused it
+-- the outcomes with which that build may break off: a book of the desk was told so, and refused it
 abbrev pub MayBreakOff : TableId → Origin → BuilderModel → Outcome → Type 0
 MayBreakOff table origin s outcome =
     (refusal : FinishRefusal) × IsToldEnd table origin s outcome (Err refusal)

@@ -16,7 +16,7 @@ use Rattle.td_desk.specs.Receipts.{made_of}
 abbrev pub made_by : ℕ → Kind → List Key → List Receipt
 made_by n kind keys = if is_desks kind then made_of n kind keys ∷ [] else []
 
--- whether an entry that stood, if so, was undone since: its mark now says so
+-- the receipt of an undo since then, for an entry that was standing and isn't now
 abbrev pub undone_since : ℕ → Bool → Mark → List Receipt
 undone_since n stood mark = if stood && not (is_standing mark) then Undid n ∷ [] else []
 
@@ -32,7 +32,7 @@ changes_from n [] opened = []
 changes_from n (m ∷ ms) [] = changes_at n None m ++ changes_from (suc n) ms []
 changes_from n (m ∷ ms) (was ∷ opened) = changes_at n (Some was) m ++ changes_from (suc n) ms opened
 
--- the changes of a book that was opened with these marks: its entries since but for claims and
+-- the changes of a book that was opened with these marks: its entries since except claims and
 -- outcomes, and the entries that were undone since
 abbrev pub changes : List Mark → BookModel → List Receipt
 changes opened b = changes_from 1 b.history.journal opened

@@ -11,7 +11,7 @@ use Rattle.td_desk.specs.Names.{Origin}
 abbrev pub GoesOn : List Marked → List Marked → Type 0
 GoesOn before now = take (length before) (map (λ m. m.entry) now) ≡ map (λ m. m.entry) before
 
--- they are those of the journal that a desk was opened with, if any, in which each build that was
+-- a journal begins with the one that a desk was opened with, if any, in which each build that was
 -- left is given back
 abbrev pub Begins : Origin → List Marked → Type 0
 Begins origin now = (text : List ℕ) (before : List Marked) → origin.journal ≡ Some text

@@ -12,7 +12,7 @@ abbrev pub made_of : ℕ → Kind → List Key → Receipt
 made_of n kinds.Sweep keys = Swept n
 made_of n kind keys = Made n kind keys
 
--- the number of the entry that it is about
+-- the number of the entry that a receipt is about
 abbrev pub number_of : Receipt → ℕ
 number_of (Made n kind keys) = n
 number_of (Swept n) = n

@@ -1,5 +1,5 @@
-//! What builders' calls and undos are answered. Each answer is made of the book under the lock, as
-//! it was before the call and as the call leaves it: no body can make one up.
+//! The answers to builders' calls and to undos. Each is made of the book under the lock, as it was
+//! before the call and as the call leaves it: no body can make one up.
 ghost use Rattle.std.specs.Prelude.{◌≡◌};
 ghost use Rattle.td_book.specs.Building.{StartOutcome};
 ghost use Rattle.td_desk.specs.Calls.{FinishTold, Finishing, IsOfDesk, Starting, UndoTold};
@@ -15,14 +15,14 @@ use td_builder::Tells;
 use td_journal::EntryNo;
 use td_rows::Outcome;
 
-/// What a start was answered.
+/// The answer to a start.
 pub struct Started<N: Named> {
     answer: Result<Job, StartRefusal>,
     of: PhantomData<N>,
 }
 
 impl<N: Named> Started<N> {
-    /// By the book before the start, and what lies under the lock after it.
+    /// The answer to a start, by the book before it, and what lies under the lock after it.
     pub(crate) fn of<C: Ledger>(
         before: Snapshot<Book<'_>>,
         locked: &Locked<'_, N, C>,
@@ -52,7 +52,7 @@ impl<N: Named> Tells<Result<Job, StartRefusal>> for Started<N> {
     }
 }
 
-/// What the end of a build was answered, and the outcome that the book was told.
+/// The answer to the end of a build, and the outcome that the book was told.
 pub struct Ended<N: Named> {
     answer: Result<EntryNo, FinishRefusal>,
     outcome: Snapshot<Outcome>,
@@ -60,7 +60,7 @@ pub struct Ended<N: Named> {
 }
 
 impl<N: Named> Ended<N> {
-    /// By the book and the seat before the end, and what lies under the lock and the seat after it.
+    /// The answer to an end, by the book and seat before it, and by `locked` and seat after it.
     pub(crate) fn of<C: Ledger>(
         before: Snapshot<Book<'_>>,
         locked: &Locked<'_, N, C>,
@@ -98,7 +98,7 @@ impl<N: Named> Tells<Result<EntryNo, FinishRefusal>> for Ended<N> {
     }
 }
 
-/// What an undo was answered, and of which entry.
+/// The answer to an undo, and its entry.
 pub struct Undone<N: Named> {
     answer: Result<(), UndoRefusal>,
     entry: EntryNo,
@@ -106,7 +106,7 @@ pub struct Undone<N: Named> {
 }
 
 impl<N: Named> Undone<N> {
-    /// By the book before the undo, and what lies under the lock after it.
+    /// The answer to an undo, by the book before it, and what lies under the lock after it.
     pub(crate) fn of<C: Ledger>(
         before: Snapshot<Book<'_>>,
         locked: &Locked<'_, N, C>,

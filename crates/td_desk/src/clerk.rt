@@ -29,7 +29,7 @@ impl<C: Ledger> Model for Clerk<C> {
 }
 
 impl<C: Ledger> Clerk<C> {
-    /// Gives one part away, without receipts. None where there is one alone.
+    /// Gives one part away, without receipts. None if there is only one.
     pub fn part(&mut self) -> Option<Clerk<C>>
         ensures { MatchOption result
             ((self.old.parts ≡ 1) × (self.new ≡ self.old))
@@ -49,7 +49,7 @@ impl<C: Ledger> Clerk<C> {
         })
     }
 
-    /// Takes another clerk's parts and receipts. Where memory is wanting the other is handed back.
+    /// Takes another clerk's parts and receipts. If memory runs out, the other is handed back.
     pub fn join(&mut self, other: Clerk<C>) -> Result<(), Clerk<C>>
         ensures ok { OnOk result
             (self.new ≡ record {

@@ -49,8 +49,8 @@ impl<'a, N: Named, C: Ledger> Desk<'a, N, C> {
         answer
     }
 
-    /// An undo by a clerk. Room for its receipt is made before the lock is taken. That there is
-    /// none is told after the marks were asked.
+    /// An undo by a clerk. Room for its receipt is made before the lock is taken. A lack of room is
+    /// answered after the marks were asked.
     pub fn undo<R: Wait>(&self, rt: &R, clerk: &mut Clerk<C>, n: EntryNo) -> Undone<N>
         ensures ok { OnOk result.answer (clerk.new ≡ with_receipt (receipt.Undid n) clerk.old) }
         ensures err { OnErr result.answer (clerk.new ≡ clerk.old) }
@@ -68,8 +68,8 @@ impl<'a, N: Named, C: Ledger> Desk<'a, N, C> {
         undone
     }
 
-    /// An arrival that a clerk tells of. Room for its receipt is made before the lock is taken. That
-    /// there is none is told after the row was asked for.
+    /// An arrival by a clerk. Room for its receipt is made before the lock is taken. A lack of room
+    /// is answered after the row was asked for.
     pub fn arrive<R: Wait>(
         &self,
         rt: &R,

@@ -18,7 +18,7 @@ use std::sync::ledger::{Ledger, Share};
 use td_book::Book;
 use td_journal::Marked;
 
-/// The book and the clerks of a desk, where the receipts aren't the book's changes.
+/// The book and the clerks of a desk, if the receipts aren't the book's changes.
 #[derive(Drop)]
 pub struct Differ<'a, C: Ledger> {
     pub book: Book<'a>,
@@ -26,7 +26,7 @@ pub struct Differ<'a, C: Ledger> {
 }
 
 impl<'a, N: Named, C: Ledger> Desk<'a, N, C> {
-    /// The book, where the receipts of these clerks are its changes, each once. It takes no memory.
+    /// The book, if the receipts of these clerks are its changes, each once. It takes no memory.
     pub fn close(self, clerks: Vec<Clerk<C>>) -> Result<Book<'a>, Differ<'a, C>>
         ensures ok { IfOk result (λ book.
             IsPermutation (all_receipts clerks.items) (changes N.opened book)) }
@@ -83,7 +83,7 @@ fn audit<C: Ledger>(ledger: &mut ledger::Book<C>, clerks: &mut Vec<Clerk<C>>)
     }
 }
 
-// The same of a share and the clerks after it. The share has a part.
+// Audits a share and the clerks after it, as `audit` does. The share has a part.
 fn audit_rest<C: Ledger>(ledger: &mut ledger::Book<C>, pot: &mut Share<C>, rest: &mut [Clerk<C>])
     requires { 0 < pot.old.parts }
     ensures parts { pot.new.parts ≡ pot.old.parts }
@@ -143,7 +143,7 @@ fn tick_clerks<C: Ledger>(entries: &[Marked], ticks: &mut Vec<Tick>, clerks: &Ve
     true
 }
 
-// The same of a list of receipts.
+// Ticks a change for each receipt of a list, while there is one.
 fn tick_receipts(entries: &[Marked], ticks: &mut Vec<Tick>, receipts: &Vec<Receipt>) -> bool
     requires { length entries.now ≤ length ticks.old.items }
     ensures len { length ticks.new.items ≡ length ticks.old.items }
@@ -160,7 +160,7 @@ fn tick_receipts(entries: &[Marked], ticks: &mut Vec<Tick>, receipts: &Vec<Recei
     true
 }
 
-// The same of one receipt: the entry is found by its number.
+// Ticks the change of a receipt, if there is one: the entry is found by its number.
 fn tick_receipt(entries: &[Marked], ticks: &mut Vec<Tick>, receipt: &Receipt) -> bool
     requires { length entries.now ≤ length ticks.old.items }
     ensures len { length ticks.new.items ≡ length ticks.old.items }

@@ -15,7 +15,7 @@ use std::alloc::AllocError;
 use std::sync::Wait;
 use std::sync::ledger::Ledger;
 use td_board::BuilderSeat;
-use td_builder::Floor;
+use td_builder::{Floor, WorkStop};
 use td_rows::Outcome;
 
 impl<'a, N: Named, C: Ledger> Floor for Desk<'a, N, C> {
@@ -26,6 +26,8 @@ impl<'a, N: Named, C: Ledger> Floor for Desk<'a, N, C> {
     type Started = Started<N>;
 
     type Ended = Ended<N>;
+
+    type Stopped = WorkStop;
 
     ghost table = { λ d. N.table };
 
@@ -41,7 +43,9 @@ impl<'a, N: Named, C: Ledger> Floor for Desk<'a, N, C> {
 
     ghost ended = { λ d. IsAtEnd N.table N.origin };
 
-    ghost stopped = { λ d stop. Unit {0} };
+    ghost stopped = { λ d why. Unit {0} };
+
+    ghost reason = { λ why. why };
 
     fn ready<R: Wait>(&self, rt: &R) -> Result<Vec<usize>, AllocError>
         ensures offered { IfOk result (λ numbers. MayBeReady N.table N.origin numbers.items) }
@@ -86,5 +90,9 @@ impl<'a, N: Named, C: Ledger> Floor for Desk<'a, N, C> {
         ensures ended { OnSome result (IsAtEnd N.table N.origin) }
     {
         Desk::wait_for_work(self, rt)
+    }
+
+    fn stop<R: Wait>(&self, _rt: &R, why: WorkStop) -> WorkStop {
+        why
     }
 }

@@ -27,8 +27,8 @@ impl<N: Named> Hired<N> {
     }
 }
 
-/// The seats of the desk's builders, each as one at the named board, in their order, and that none
-/// of them has gone home.
+/// The seats of the desk's builders in their order, each as one at the named board, and that no
+/// builder has gone home.
 pub fn hire<N: Named>(
     alloc: Global,
     seats: Vec<BuilderSeat>,

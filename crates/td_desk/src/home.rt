@@ -12,7 +12,7 @@ use std::marker::PhantomData;
 use std::sync::ledger::Ledger;
 
 /// That a builder may go home. It is made of what lies under the lock, of a desk that is shut and
-/// has no row that waits for a builder. It is no `Drop`, so it is counted: `Homes` alone takes it,
+/// has no row that waits for a builder. It is no `Drop`, so it is counted: only `Homes` takes it,
 /// with the builder's seat.
 pub struct Home<N: Named> {
     of: PhantomData<N>,
@@ -20,7 +20,7 @@ pub struct Home<N: Named> {
 }
 
 impl<N: Named> Home<N> {
-    /// By what lies under the lock.
+    /// Made by what lies under the lock.
     pub(crate) fn of<C: Ledger>(locked: &Locked<'_, N, C>) -> Home<N>
         requires shut { locked.now.shut ≡ true }
         requires none { is_any_queued (rows_of locked.now.book.history) ≡ false }
@@ -30,7 +30,7 @@ impl<N: Named> Home<N> {
     }
 }
 
-/// How many of the desk's builders have gone home. `hire` alone makes one, of all of them.
+/// How many of the desk's builders have gone home. Only `hire` makes one, of all of them.
 #[derive(Drop)]
 pub struct Homes<N: Named> {
     builders: u64,
@@ -41,7 +41,7 @@ pub struct Homes<N: Named> {
 }
 
 impl<N: Named> Homes<N> {
-    /// None of so many builders has.
+    /// None of this many builders has gone home.
     pub(crate) fn none(builders: u64) -> Homes<N>
         requires { builders ≡ N.origin.builders }
         ensures { result.count ≡ 0 }
@@ -53,7 +53,7 @@ impl<N: Named> Homes<N> {
         }
     }
 
-    /// One builder more has. It has no row, and leaves its seat: nobody works with that any more.
+    /// Another builder goes home. It has no row, and leaves its seat: nobody works with that now.
     pub fn add(&mut self, home: Home<N>, hired: Hired<N>)
         requires { IsIdle hired.seat }
         ensures { self.old.count < 2 ^ 64 - 1 → self.new.count ≡ self.old.count + 1 }
@@ -63,7 +63,7 @@ impl<N: Named> Homes<N> {
         self.count = self.count.saturating_add(1);
     }
 
-    /// How many of the desk's builders are missing: those who haven't.
+    /// How many of the desk's builders are missing: those who haven't gone home.
     pub fn missing(&self) -> u64
         ensures missing { result ≡ N.origin.builders - self.now.count }
         ensures home { result < N.origin.builders → ∥ IsAtEnd N.table N.origin ∥₁ }

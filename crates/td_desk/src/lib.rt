@@ -5,9 +5,9 @@
 //! no lock. A `Clerk` keeps a receipt of each change that it made, and
 //! `Desk::close` holds the receipts of all clerks against the book. `hire` seats builders at it.
 //! Promised: each accepted call of a clerk adds its receipt and counts it in a ledger; a desk is
-//! closed exactly where the receipts handed in are the book's changes, each once; what a call
-//! answers is what the book's call answers on a book at the named board; `shut` alone shuts it, and
-//! a builder gets a `Home` where it is shut and no row waits.
+//! closed if and only if the receipts handed in are the book's changes, each once; what a call
+//! answers is what the book's call answers on a book at the named board; only `shut` shuts it, and
+//! a builder gets a `Home` if it is shut and no row waits.
 #![tactic(auto)]
 
 mod answers;

@@ -10,8 +10,8 @@ use crate::named::Named;
 use std::sync::ledger::{Ledger, Share};
 use std::sync::{Condvar, Mutex, MutexGuard, Wait};
 
-/// What lies under the lock. It is made open, and `shut` alone shuts it: the fields are seen here
-/// alone.
+/// What lies under the lock. It is made open, and only `shut` shuts it: the fields are seen only
+/// here.
 #[derive(Drop)]
 pub(crate) struct Lock<'a, N: Named, C: Ledger> {
     locked: Mutex<Locked<'a, N, C>>,
@@ -81,7 +81,7 @@ impl<'a, N: Named, C: Ledger> Lock<'a, N, C> {
         )
     }
 
-    /// What lies under it.
+    /// What lies under the lock.
     pub(crate) fn into_inner(self) -> Locked<'a, N, C> {
         self.locked.into_inner()
     }

@@ -117,7 +117,7 @@ impl<'a, N: Named, C: Ledger> Locked<'a, N, C> {
     }
 
     /// What a builder goes home with, if no row waits for one. It is asked of a desk that is shut,
-    /// or where one does.
+    /// or has a row that waits.
     pub(crate) fn home(&self) -> Option<Home<N>>
         requires { (self.now.shut || is_any_queued (rows_of self.now.book.history)) ≡ true }
         ensures work { is_none result ≡ is_any_queued (rows_of self.now.book.history) }
@@ -175,8 +175,8 @@ impl<'a, N: Named, C: Ledger> Locked<'a, N, C> {
         Ok(taken)
     }
 
-    /// An undo, with its receipt. One that the marks refuse is told so also if its receipt has no
-    /// room.
+    /// An undo, with its receipt. One that the marks refuse is answered so also if its receipt has
+    /// no room.
     pub(crate) fn undo(
         &mut self,
         board: &Board,
@@ -216,8 +216,8 @@ impl<'a, N: Named, C: Ledger> Locked<'a, N, C> {
         Ok(())
     }
 
-    /// An arrival, with its receipt. One without a row on which it applies is told so also if its
-    /// receipt has no room.
+    /// An arrival, with its receipt. One without a row on which it applies is answered so also if
+    /// its receipt has no room.
     pub(crate) fn arrive(
         &mut self,
         mine: &mut Share<C>,

@@ -1,8 +1,8 @@
 //! Names of boards.
 use std::marker::Brand;
 
-/// Names one board, what its book starts from, the marks of the journal with which it was opened,
-/// and whether its desk may be shut. A function over a name is called with `Brand`, and the call
+/// Names one board, what its book starts from, the marks of the journal that it opened with, and
+/// whether its desk may be shut. A function over a name is called with `Brand`, and the call
 /// picks what it names.
 pub trait Named {
     ghost use Rattle.std.specs.Prelude.{Bool, List};

@@ -6,8 +6,8 @@ ghost use Rattle.td_desk.specs.inner.Ticks.{AreBegun, begun_at};
 use crate::tick::{Tick, add_ticks};
 use std::alloc::{AllocError, Global};
 
-/// Where a reading of a journal's lines stands: in the number that a line begins with, at its
-/// mark, or behind that.
+/// Where a reading of a journal's lines is: in the number that a line begins with, at its mark, or
+/// after that.
 #[derive(Clone, Copy)]
 pub(crate) enum Place {
     Number,
@@ -15,7 +15,7 @@ pub(crate) enum Place {
     Rest,
 }
 
-/// Makes ticks of so many entries of a journal that begins with those whose lines the text has:
+/// Makes ticks of this many entries of a journal that begins with those whose lines the text has:
 /// none of these is a change, nor is an undo of then.
 pub(crate) fn set_ticks(
     alloc: Global,
@@ -46,7 +46,7 @@ fn begun_ticks(alloc: Global, text: &str) -> Result<Vec<Tick>, AllocError>
     Ok(ticks)
 }
 
-// The tick of a mark, if one stands there.
+// Adds the tick of a mark, if there is one at this place.
 fn push_mark(ticks: &mut Vec<Tick>, place: Place, byte: u8) -> Result<(), AllocError>
     ensures { OnOk result (ticks.new.items ≡ ticks.old.items ++ map begun_at (mark_at place byte)) }
 {
@@ -66,7 +66,7 @@ fn tick_of(byte: u8) -> Tick
     }
 }
 
-// Where the reading stands behind a byte.
+// Where the reading is after a byte.
 fn behind(place: Place, byte: u8) -> Place
     ensures { result ≡ place_behind place byte }
 {

@@ -19,7 +19,7 @@ pub(crate) struct Tick {
     pub(crate) undone: bool,
 }
 
-/// Ticks for so many entries more than there are.
+/// Ticks for this many entries more than there are.
 pub(crate) fn add_ticks(ticks: &mut Vec<Tick>, held: u64, more: usize) -> Result<(), AllocError>
     ensures begun { (opened : List MarkValue) → AreBegun opened held ticks.old.items
         → AreBegun opened held ticks.new.items }
@@ -70,7 +70,7 @@ fn finds_made(tick: Tick, n: EntryNo, marked: &Marked, receipt: &Receipt) -> boo
     is_made_left(tick, marked) && receipt.is_of(n, &marked.entry, false)
 }
 
-// Whether it is of its undo, which isn't.
+// Whether the receipt is of the undo of entry n, which isn't ticked yet.
 fn finds_undo(tick: Tick, n: EntryNo, marked: &Marked, receipt: &Receipt) -> bool
     ensures { result ≡ (is_undo_left_in marked.now tick
         && same_receipt receipt.now
@@ -87,7 +87,7 @@ fn is_made_left(tick: Tick, marked: &Marked) -> bool
     is_desks && !tick.made
 }
 
-// Whether its undo isn't.
+// Whether the undo of the entry isn't ticked yet.
 fn is_undo_left(tick: Tick, marked: &Marked) -> bool
     ensures { result ≡ is_undo_left_in marked.now tick }
 {

@@ -45,7 +45,7 @@ impl Draft {
     }
 }
 
-/// Moves the named keys into a list that has room for them, but for those of the skips, which
+/// Moves the named keys into a list that has room for them, except those of the skips, which
 /// come in the same order. It takes no memory.
 pub(crate) fn left_out(named: Vec<Key>, skips: &[Skip], mut told: Vec<Key>) -> Vec<Key>
     requires empty { told.items ≡ [] }

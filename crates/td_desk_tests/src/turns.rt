@@ -1,5 +1,5 @@
 //! A builder and a clerk in turn, on one thread: each time the builder has tried what was ready,
-//! the clerk makes the next call. Behind the last the desk is shut, and the builder goes home.
+//! the clerk makes the next call. After the last the desk is shut, and the builder goes home.
 ghost use Rattle.std.specs.Prelude.{◌≡◌, true, IfErr, IfOk, OnErr, OnOk, OnSome};
 ghost use Rattle.td_builder.specs.Floors.{IsHolding, IsFinished, IsRefused};
 ghost use Rattle.td_desk.specs.Calls.{IsAtEnd, MayBeReady, MayEnd, MayStart};
@@ -34,7 +34,7 @@ fn take<N: Named, C: Ledger, R: Wait>(
     }
 }
 
-// The entry of an arrival that a clerk tells of.
+// The entry of an arrival that a clerk reports.
 fn arrive<N: Named, C: Ledger, R: Wait>(
     rt: &R,
     alloc: Global,
@@ -60,7 +60,7 @@ fn undo<N: Named, C: Ledger, R: Wait>(
     }
 }
 
-// The entry that a clerk's call makes or undoes; none where it is refused, or finds nothing.
+// The entry that a clerk's call makes or undoes; none if it is refused, or finds nothing.
 fn call<N: Named, C: Ledger, R: Wait>(
     rt: &R,
     alloc: Global,
@@ -87,7 +87,7 @@ struct Day<'t, C: Ledger> {
     refuses: bool,
 }
 
-// Tells the entry of a call.
+// Appends the entry of a call.
 fn tell_entry(told: &mut String, made: Option<EntryNo>) {
     let _ = match made {
         Some(n) => write!(told, "entry {n}|"),
@@ -96,7 +96,7 @@ fn tell_entry(told: &mut String, made: Option<EntryNo>) {
 }
 
 impl<'t, C: Ledger> Day<'t, C> {
-    // The next call; none behind the last.
+    // The next call; none after the last.
     fn next_call(&mut self) -> Option<&'t str> {
         if self.left.is_empty() {
             return None;
@@ -106,7 +106,7 @@ impl<'t, C: Ledger> Day<'t, C> {
         Some(line)
     }
 
-    // Makes the next call, and tells its entry. Whether there was one.
+    // Makes the next call, and appends its entry. Whether there was one.
     fn go_on<N: Named, R: Wait>(
         &mut self,
         rt: &R,
@@ -127,7 +127,7 @@ impl<'t, C: Ledger> Day<'t, C> {
     }
 }
 
-// Builds that end as the outcome lines say. Of each is told, before it ends, its job, and its row
+// Builds that end as the outcome lines say. Before each ends, its job is appended, and its row
 // as the desk has it.
 #[derive(Drop)]
 struct Jobs<'d, N: Named, C: Ledger> {
@@ -153,7 +153,7 @@ impl<'d, N: Named, C: Ledger> Builds for Jobs<'d, N, C> {
     ghost goes_on = { λ jobs job outcome after. Unit {0} };
 
     fn build<R: Wait>(&mut self, rt: &R, job: Job) -> Outcome {
-        // (what lacks memory isn't told, and is missing then)
+        // (what lacks memory isn't appended, and is missing then)
         if let Ok(text) = self.text(rt, &job) {
             let _ = self.told.lock(rt).push_str(text.as_str());
         }
@@ -161,7 +161,7 @@ impl<'d, N: Named, C: Ledger> Builds for Jobs<'d, N, C> {
     }
 }
 
-// What the end of a build is answered here, as the day has it.
+// The answer to the end of a build here, as the day has it.
 struct TurnsEnd {
     answer: Result<EntryNo, FinishRefusal>,
 }
@@ -203,6 +203,8 @@ impl<'d, 't, N: Named, C: Ledger> Floor for Turns<'d, 't, N, C> {
 
     type Ended = TurnsEnd;
 
+    type Stopped = WorkStop;
+
     ghost table = { λ turns. N.table };
 
     ghost rows = { λ turns. turns.desk.now.board.rows };
@@ -217,7 +219,9 @@ impl<'d, 't, N: Named, C: Ledger> Floor for Turns<'d, 't, N, C> {
 
     ghost ended = { λ turns. IsAtEnd N.table N.origin };
 
-    ghost stopped = { λ turns stop. Unit {0} };
+    ghost stopped = { λ turns why. Unit {0} };
+
+    ghost reason = { λ why. why };
 
     fn ready<R: Wait>(&self, rt: &R) -> Result<Vec<usize>, AllocError>
         ensures offered { IfOk result (λ numbers. MayBeReady N.table N.origin numbers.items) }
@@ -269,9 +273,13 @@ impl<'d, 't, N: Named, C: Ledger> Floor for Turns<'d, 't, N, C> {
         self.desk.shut(rt);
         Floor::wait_for_work(self.desk, rt)
     }
+
+    fn stop<R: Wait>(&self, _rt: &R, why: WorkStop) -> WorkStop {
+        why
+    }
 }
 
-// What the builder's work is answered, and the builder. One that goes home is counted among those
+// The answer to the builder's work, and the builder. One that goes home is counted among those
 // who did.
 fn work_of<N: Named, C: Ledger, R: Wait>(
     rt: &R,
@@ -291,7 +299,7 @@ fn work_of<N: Named, C: Ledger, R: Wait>(
     }
 }
 
-// What the last builder's work is answered while the last clerk makes these calls.
+// The answer to the last builder's work while the last clerk makes these calls.
 fn work_beside<N: Named, C: Ledger, R: Wait>(
     rt: &R,
     desk: &Desk<'static, N, C>,
@@ -336,8 +344,8 @@ fn work_beside<N: Named, C: Ledger, R: Wait>(
     Some(end)
 }
 
-// What is told of the last builder's work in turn with these calls of the last clerk: of each
-// build and of each call, in their order, and what the work is answered.
+// What is appended of the last builder's work in turn with these calls of the last clerk: each
+// build and each call, in their order, and the answer to the work.
 pub(crate) fn work_in_turn<N: Named, C: Ledger, R: Wait>(
     rt: &R,
     desk: &Desk<'static, N, C>,

@@ -62,7 +62,7 @@ same_receipt q r = false
 abbrev pub change_of : ℕ → Kind → List Key → Bool → Receipt
 change_of n kind keys undo = if undo then Undid n else made_of n kind keys
 
--- the keys, of which those of a second list in the same order are left out
+-- the keys without those of a second list in the same order
 abbrev pub left_out : List Key → List Key → List Key
 left_out [] ss = []
 left_out (k ∷ ks) [] = k ∷ left_out ks []

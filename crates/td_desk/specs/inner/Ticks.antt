@@ -17,7 +17,7 @@ use Rattle.td_desk.specs.inner.Matching.{same_receipt}
 abbrev pub unticked : Tick
 unticked = record { made = false; undone = false }
 
--- the tick of an entry that was there at the opening: it wasn't made since, and where it was undone
+-- the tick of an entry that was there at the opening: it wasn't made since, and if it was undone
 -- then, that isn't a change
 abbrev pub begun_at : Mark → Tick
 begun_at was = record { made = true; undone = not (is_standing was) }
@@ -27,7 +27,7 @@ abbrev pub AreBegun : List Mark → ℕ → List Tick → Type 0
 AreBegun opened n ts =
     (ts ≡ map begun_at opened ++ replicate (length ts - length opened) unticked) × (n ≤ length ts)
 
--- whether what a clerk made by the entry isn't ticked yet; and whether its undo isn't
+-- whether what a clerk made by the entry isn't ticked yet
 abbrev pub is_made_left : Marked → Tick → Bool
 is_made_left m t = is_desks m.entry.kind && not t.made
 
@@ -35,7 +35,7 @@ is_made_left m t = is_desks m.entry.kind && not t.made
 abbrev pub is_undo_left : Marked → Tick → Bool
 is_undo_left m t = not (is_standing m.mark) && not t.undone
 
--- the receipt, where the change is left
+-- the receipt, if the change is left
 abbrev pub one : Bool → Receipt → List Receipt
 one b r = if b then r ∷ [] else []
 
@@ -44,17 +44,17 @@ abbrev pub left_at : ℕ → Marked → Tick → List Receipt
 left_at n m t =
     one (is_made_left m t) (made_of n m.entry.kind m.entry.keys) ++ one (is_undo_left m t) (Undid n)
 
--- those of the entries from number n on
+-- the changes of the entries from number n on that aren't ticked
 abbrev pub left_from : ℕ → List Marked → List Tick → List Receipt
 left_from n [] ts = []
 left_from n (m ∷ ms) [] = []
 left_from n (m ∷ ms) (t ∷ ts) = left_at n m t ++ left_from (suc n) ms ts
 
--- those of a book
+-- the changes of a book that aren't ticked
 abbrev pub left : BookModel → List Tick → List Receipt
 left b ts = left_from 1 b.history.journal ts
 
--- whether each change of an entry is ticked, and of all entries
+-- whether each change of an entry is ticked
 abbrev pub is_ticked_at : Marked → Tick → Bool
 is_ticked_at m t = not (is_made_left m t) && not (is_undo_left m t)
 

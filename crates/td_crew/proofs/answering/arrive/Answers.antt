@@ -1,4 +1,4 @@
--- What is said to an arrival is what a book of the desk answers.
+-- What a clerk says to an arrival is what a book of the desk answers.
 use Rattle.std.proofs.Common.{[], ◌∷◌, ap}
 use Rattle.std.proofs.lemmas.Result.{IfOk-weaker}
 use Rattle.td_rows.specs.declared.kind.Kind.TheVariants.{Arrive}

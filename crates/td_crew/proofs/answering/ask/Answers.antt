@@ -1,4 +1,4 @@
--- By which request what changes nothing was asked for.
+-- The request that asked for what changes nothing.
 use Rattle.td_script.specs.declared.request.Request.TheVariants as requests
 use Rattle.td_desk.specs.Calls.{IsMetBy}
 use Rattle.td_script.specs.Settings.{setting_lent}

@@ -1,4 +1,4 @@
--- What is said to a command is what a book of the desk answers.
+-- What a clerk says to a command is what a book of the desk answers.
 use Rattle.std.proofs.Common.{rules}
 use Rattle.std.specs.Prelude.{string_bytes}
 use Rattle.std.proofs.lemmas.Result.{IfOk-weaker}

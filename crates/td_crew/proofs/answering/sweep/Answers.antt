@@ -1,4 +1,4 @@
--- What is said to a sweep is what a book of the desk answers.
+-- What a clerk says to a sweep is what a book of the desk answers.
 use Rattle.std.proofs.Common.{◌≡◌, List, Ok, Option, ℕ, rules, subst}
 use Rattle.std.specs.Prelude.{MatchOption, string_bytes}
 use Rattle.td_book.specs.Desk.{BookModel}

@@ -1,4 +1,4 @@
--- What is said to an undo is what a book of the desk answers.
+-- What a clerk says to an undo is what a book of the desk answers.
 use Rattle.std.proofs.lemmas.Result.{IfOk-weaker}
 use Rattle.td_desk.specs.Calls.{IsMetBy}
 use Rattle.td_crew.proofs.Replied.{parts_undone, undo_taken}

@@ -1,4 +1,4 @@
--- The rows of a closed desk's book stand over those from which it started.
+-- The answers that `close` leaves end with the rows of the closed desk's book.
 use Rattle.std.proofs.Common.{◌≡◌, ◌+◌, List, append-nil, arith, length, refl, subst}
 use Rattle.std.proofs.lemmas.Result.{IfOk-weaker}
 use Rattle.td_desk.specs.Changes.{changes}

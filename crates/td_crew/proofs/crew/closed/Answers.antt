@@ -20,7 +20,7 @@ returns-clause-of_desk g c =
           w.in-Err.ensures.staff_err w.in-Err.ensures.began_err c.rows-lawful.ensures.lawful
     ]
 
--- a permutation is as long; where the receipts differ the ledger counts them
+-- a permutation is as long; if the receipts differ, the ledger counts them
 pub returns-clause-counted : goal.returns-clause-counted
 returns-clause-counted g c = λ all.
     let count = λ (p : BookModel × ℕ). length (changes g.N.Named.opened p.0) in

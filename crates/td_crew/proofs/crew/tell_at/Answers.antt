@@ -1,4 +1,4 @@
--- What a crew tells at a desk ends with the rows of its book.
+-- A crew's answers at a desk end with the rows of its book.
 use Rattle.std.proofs.Common.{ap, length, refl}
 use Rattle.std.proofs.lemmas.Result.{IfOk-weaker}
 use Rattle.td_desk.specs.Clerks.{ClerkModel}

@@ -1,4 +1,4 @@
--- What a crew tells at the named desk, it tells from where a script starts.
+-- A crew's answers at the named desk are answers from where a script starts.
 use Rattle.std.proofs.Common.{◌≡◌, length, option_map, refl, subst}
 use Rattle.std.proofs.lemmas.Result.{IfOk-weaker}
 use Rattle.td_journal.specs.declared.journal_fault.ReadError.TheVariants.{NoMemory}

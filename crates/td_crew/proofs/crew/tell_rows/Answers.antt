@@ -1,4 +1,4 @@
--- The rows of a book stand behind what was told.
+-- The rows of a book come after the answers.
 use Rattle.std.proofs.Common.{ap, refl, ◌∙◌}
 use Rattle.std.specs.Prelude.{string_bytes}
 use Rattle.td_rows.specs.StateWriting.{state_text}

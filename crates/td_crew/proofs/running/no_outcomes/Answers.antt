@@ -1,4 +1,4 @@
--- A file that is refused comes before the outcomes, and what is told of them is their first bad
+-- A file that is refused comes before the outcomes, and the fault of these is their first bad
 -- line.
 use Rattle.td_script.specs.Openings.{texts_of}
 use Rattle.td_inputs.specs.Inputs.{without_journal}

@@ -1,4 +1,4 @@
--- Where the outcomes aren't read nothing is written, and no stream has failed.
+-- If the outcomes aren't read, nothing is written, and no stream has failed.
 use Rattle.std.proofs.Common.{◌≡◌, rules}
 use Rattle.td_script.specs.declared.running.RunFault.TheVariants as fault
 use Rattle.td_script.specs.Openings.{texts_of}
@@ -41,7 +41,7 @@ returns-in-Err-clause-unwritten g c = λ is.
     (unwritten_calm (texts_of inputs) (outcomes_of inputs) c.no_outcomes.result
     c.no_outcomes.ensures.says same)
 
--- where they are read, the run ends as the script's
+-- if the outcomes are read, the run ends as the script's
 pub returns-clause-says : goal.returns-clause-says
 returns-clause-says g c =
     let inputs = c.args.inputs.now in

@@ -1,4 +1,4 @@
--- The entry that is told is that of a book of the desk.
+-- The entry that is shown is that of a book of the desk.
 use Rattle.std.proofs.lemmas.Result.{IfOk-weaker}
 use Rattle.td_script.specs.Replies.{shows_entry}
 use Rattle.td_desk.specs.Calls.{IsMetBy}

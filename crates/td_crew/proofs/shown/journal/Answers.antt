@@ -1,4 +1,4 @@
--- The journal that is told is that of a book of the desk.
+-- The journal that is shown is that of a book of the desk.
 use Rattle.std.proofs.lemmas.Result.{IfOk-weaker}
 use Rattle.td_journal.specs.JournalText.{journal_text}
 use Rattle.td_script.specs.Replies.{says}

@@ -1,4 +1,4 @@
--- The report that is told is that of a book of the desk.
+-- The report that is shown is that of a book of the desk.
 use Rattle.std.proofs.Common.{option_map, refl}
 use Rattle.std.proofs.lemmas.Result.{IfOk-weaker}
 use Rattle.td_script.specs.Replies.{reports}

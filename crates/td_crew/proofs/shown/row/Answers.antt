@@ -1,4 +1,4 @@
--- The row that is told is that of a book of the desk.
+-- The row that is shown is that of a book of the desk.
 use Rattle.std.proofs.lemmas.Result.{IfOk-weaker}
 use Rattle.td_rows.specs.Table.{row_of}
 use Rattle.td_core.specs.History.{rows_of}

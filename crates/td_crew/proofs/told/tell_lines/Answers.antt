@@ -1,4 +1,4 @@
--- The lines are told one after the other.
+-- The lines are answered one after the other.
 use Rattle.std.proofs.Common.{◌≡◌, ℕ, None, refl, rules, subst, ◌∙◌}
 use Rattle.td_script.specs.Settings.{setting_lent}
 use Rattle.td_crew.specs.CrewText.{IsReplied, told_with}

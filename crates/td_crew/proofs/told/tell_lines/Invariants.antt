@@ -5,7 +5,7 @@ use Rattle.td_script.specs.Settings.{setting_lent}
 use Rattle.td_crew.proofs.ToldSoFar.{IsSoFar}
 use Rattle.td_crew.proofs.told.tell_lines.Given as goal
 
--- what is told so far, with what is told of the rest, is the whole; and the clerk has its parts
+-- the answers so far, with those to the rest, are the whole; and the clerk has its parts
 abbrev pub invariant-loop-rest : goal.invariant-loop-rest
 invariant-loop-rest g l =
     IsSoFar g.N.Named.table g.N.Named.origin g.N.Named.opened l.fn.clerk.parts
