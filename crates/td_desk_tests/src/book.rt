@@ -1,4 +1,4 @@
-//! The tests of a book alone. Start at `books`.
+//! The tests of a book without a desk. Start at `books`.
 mod books;
 mod desk;
 mod random;

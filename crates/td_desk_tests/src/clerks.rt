@@ -33,7 +33,7 @@ foo/amd64 Built 0 1
 foo/i386 Built 0 2
 ";
 
-// That the trial whose script ends so leaves this front before the book.
+// Checks that the trial whose script ends so leaves this front before the book.
 fn ends<R: Threads + Wait + Abort + Sync>(
     rt: &R,
     alloc: Global,
@@ -46,7 +46,7 @@ fn ends<R: Threads + Wait + Abort + Sync>(
     all_leave(rt, alloc, &[played])
 }
 
-// Builds are no clerk's change. What the first clerk has in the end stands before the book.
+// Builds are no clerk's change. What the first clerk has in the end comes before the book.
 #[test]
 fn a_desk_is_closed_by_the_receipts_of_all_clerks(rt: HostRuntime) -> Result<(), Fail> {
     ends(&rt, rt.alloc(), "", "closed")?;
@@ -149,6 +149,75 @@ fn desk_reads_back(rt: HostRuntime) -> Result<(), Fail> {
 #[test]
 fn a_clerk_who_lacks_memory_changes_nothing(rt: HostRuntime) -> Result<(), Fail> {
     all_leave_with(&rt, rt.alloc(), &READ_BACK, Tries::Two)
+}
+
+const HELD: &str = "\
+hold foo/amd64 => true
+arrive foo/amd64 => Err(DoesNotApply(NeedsBuild))
+dw foo . ANY . -m libqq-dev => entry 2, foo/amd64 State(Building(1))
+arrive foo/amd64 => Err(DoesNotApply(Building(1)))
+gb foo . ANY => entry 3, foo/amd64 State(Building(1))
+nmu foo . amd64 => NothingApplies, foo/amd64 State(Building(1))
+end built => Some(Ok(4))
+arrive foo/amd64 => Ok(5)
+receipts => [1024: made 2 foo/i386; made 3 foo/i386; made 5 foo/amd64;]
+";
+
+// A row that a builder has is skipped with that state, and its build hasn't arrived. A claim is
+// noted by the command that finds it.
+const HAD: [Played<'static>; 1] = [(
+    "foo/amd64 Needs-Build 0 0\nfoo/i386 Failed 0 0\n",
+    "",
+    HELD,
+    "closed\nreplayed\ntransdesk journal 2\n\
+     1 + claim=1 foo/amd64\n\
+     2 + dw foo/i386 : libqq-dev\n\
+     3 + gb foo/i386\n\
+     4 + built=1 foo/amd64\n\
+     5 + arrive foo/amd64\n\
+     foo/amd64 Installed 0 0\n\
+     foo/i386 Needs-Build 0 0\n",
+)];
+
+#[test]
+fn a_row_that_a_builder_has_is_skipped(rt: HostRuntime) -> Result<(), Fail> {
+    all_leave(&rt, rt.alloc(), &HAD)
+}
+
+const BOTH: &str = "\
+part => true
+arrive bar/amd64 => Ok(1)
+sweep => Ok(Some(2))
+second arrive bar/amd64 => Err(DoesNotApply(Installed))
+second sweep => Ok(None)
+second arrive bar/i386 => Ok(3)
+second sweep => Ok(Some(4))
+sweep => Ok(None)
+receipts => [1023: made 1 bar/amd64; swept 2;][1: made 3 bar/i386; swept 4;]
+";
+
+// Each clerk is answered of its own arrival and its own sweep.
+const OF_BOTH: [Played<'static>; 1] = [(
+    "bar/amd64 Uploaded 0 1\n\
+     bar/i386 Uploaded 0 1\n\
+     foo/amd64 Dep-Wait 0 1 : libbar-dev (>= 2.0-1+b1)\n\
+     foo/i386 Dep-Wait 0 1 : libbar-dev (>= 2.0-1+b1)\n",
+    "",
+    BOTH,
+    "closed\nreplayed\ntransdesk journal 2\n\
+     1 + arrive bar/amd64\n\
+     2 + sweep foo/amd64\n\
+     3 + arrive bar/i386\n\
+     4 + sweep foo/i386\n\
+     bar/amd64 Installed 0 1\n\
+     bar/i386 Installed 0 1\n\
+     foo/amd64 Needs-Build 0 1\n\
+     foo/i386 Needs-Build 0 1\n",
+)];
+
+#[test]
+fn a_second_clerk_arrives_and_sweeps_for_itself(rt: HostRuntime) -> Result<(), Fail> {
+    all_leave(&rt, rt.alloc(), &OF_BOTH)
 }
 
 // A ledger has 1,024 parts.

@@ -1,4 +1,4 @@
-//! Builders on threads of their own beside clerks, who command and undo by a fixed sequence of
+//! Builders on threads of their own, and clerks who command and undo by a fixed sequence of
 //! numbers.
 ghost use Rattle.std.specs.Prelude.{◌≡◌, true};
 
@@ -85,7 +85,7 @@ fn serve<N: Named, C: Ledger, R: Wait>(
     }
 }
 
-// The keys of an entry; none where there is no such entry.
+// The keys of an entry; none if there is no such entry.
 fn keys_of<'b>(book: &'b Book<'_>, n: EntryNo) -> &'b [Key] {
     match book.entry(n) {
         Some(marked) => marked.entry.keys.as_slice(),
@@ -133,7 +133,7 @@ fn undo<N: Named, C: Ledger, R: Wait>(
     }
 }
 
-// The number of the clerk's command that is so many back.
+// The number of the clerk's command that is this many back.
 fn own(receipts: &[Receipt], back: u64) -> Option<EntryNo> {
     receipts
         .iter()
@@ -167,7 +167,7 @@ fn line(alloc: Global, number: u64) -> Option<String> {
     format!(in alloc; "{verb} {tail}").ok()
 }
 
-// An undo of the clerk's command that is so many back; a refusal where there is none.
+// An undo of the clerk's command that is this many back; a refusal if there is none.
 fn undo_own<N: Named, C: Ledger, R: Wait>(
     rt: &R,
     desk: &Desk<'static, N, C>,
@@ -215,7 +215,7 @@ fn call<N: Named, C: Ledger, R: Wait>(
     }
 }
 
-// So many calls of a clerk, and some more where the builders haven't built much by then.
+// This many calls of a clerk, and some more if the builders haven't built much by then.
 fn call_often<N: Named, C: Ledger, R: Wait>(
     rt: &R,
     alloc: Global,
@@ -307,7 +307,7 @@ fn call_beside<N: Named + Send + Sync, C: Ledger + Send + Sync, R: Threads + Wai
     );
 }
 
-// So many calls of each clerk while all builders build, who are gone then. What was counted.
+// What was counted over this many calls of each clerk while all builders build, who are gone then.
 pub(crate) fn crew<N: Named + Send + Sync, C: Ledger + Send + Sync, R: Threads + Wait + Sync>(
     rt: &R,
     desk: &Desk<'static, N, C>,

@@ -15,7 +15,7 @@ foo/amd64 Failed 0 0
 foo/i386 Installed 0 1
 ";
 
-// Builders who work beside two clerks, of 500 calls each; and builders who claim without pause
+// Builders who work while two clerks make 500 calls each; and builders who claim without pause
 // against the 2,000 calls of one clerk.
 const CREWS: [(usize, &str); 2] = [
     (
@@ -29,7 +29,7 @@ const CREWS: [(usize, &str); 2] = [
     ),
 ];
 
-// That what the trial leaves begins so.
+// Checks that what the trial leaves begins so.
 fn begins<R: Threads + Wait + Abort + Sync>(
     rt: &R,
     alloc: Global,

@@ -1,9 +1,9 @@
 //! The tests of the book, of the desk, and of builders over it: what no clause says.
 //!
-//! Start at `book`, which are those of a book alone, then `clerks`, `builders`, `outcomes`,
+//! Start at `book`, the tests of a book without a desk, then `clerks`, `builders`, `outcomes`,
 //! `journals` and `crews`. `sample` is what all begin with. `shop` opens a desk and closes it,
 //! `script` reads the calls at it, `people` are the clerks and the builders who make them. They
-//! stand in a crate of their own, over public calls, so that neither the book nor the desk nor the
+//! are in a crate of their own, over public calls, so that neither the book nor the desk nor the
 //! builders are proved a second time with their tests. `Together` is for the crew's tests too.
 #![tactic(auto)]
 

@@ -1,4 +1,4 @@
-//! What two builders are answered whose builds wait for one another.
+//! The answers to two builders whose builds wait for one another.
 use crate::people::{People, work_of};
 use crate::together::Together;
 use std::sync::ledger::Ledger;
@@ -8,7 +8,7 @@ use std::thread::Threads;
 use td_builder::WorkStop;
 use td_desk::{Desk, Hired, Homes, Named};
 
-// What the work of these two is answered, at the same time.
+// The answers to the work of these two, at the same time.
 fn work_both<N: Named + Send + Sync, C: Ledger + Send + Sync, R: Threads + Wait + Sync>(
     rt: &R,
     desk: &Desk<'static, N, C>,
@@ -26,7 +26,7 @@ fn work_both<N: Named + Send + Sync, C: Ledger + Send + Sync, R: Threads + Wait 
     (one, two)
 }
 
-// What the work of the last two builders is answered, at the same time; nothing without two.
+// The answers to the work of the last two builders, at the same time; nothing without two.
 pub(crate) fn work_together<
     N: Named + Send + Sync,
     C: Ledger + Send + Sync,

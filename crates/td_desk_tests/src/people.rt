@@ -6,14 +6,15 @@ use std::sync::ledger::Ledger;
 use std::sync::{Mutex, Wait};
 use std::test::Fail;
 use td_board::BuilderSeat;
-use td_book::{CommandRefusal, Taken};
+use td_book::{CommandRefusal, FinishRefusal, Taken};
 use td_builder::{Builds, Outcomes, Tells, WorkStop, work};
 use td_desk::{Clerk, Desk, Hired, Homes, Named, hire};
+use td_journal::EntryNo;
 use td_relation::Archs;
 use td_rows::Outcome;
 use td_wbread::{CommandFault, read_command};
 
-// What a clerk's command is answered, by its line.
+// The answer to a clerk's command, by its line.
 pub(crate) fn command<N: Named, C: Ledger, R: Wait>(
     rt: &R,
     alloc: Global,
@@ -48,7 +49,7 @@ pub(crate) fn build<N: Named, C: Ledger, R: Wait>(
     is_its_own && desk.finish(rt, &mut hired.seat, outcome).answer().is_ok()
 }
 
-// What a builder's work is answered, and the builder. One that goes home is counted among those who
+// The answer to a builder's work, and the builder. One that goes home is counted among those who
 // did.
 pub(crate) fn work_of<N: Named, C: Ledger, B: Builds, R: Wait>(
     rt: &R,
@@ -136,14 +137,14 @@ impl<N: Named, C: Ledger> People<N, C> {
         }
     }
 
-    // Where a builder who hasn't gone home stands again, behind the others.
+    // Puts a builder who hasn't gone home after the others.
     pub(crate) fn keep(&mut self, hired: Option<Hired<N>>) {
         if let Some(hired) = hired {
             let _ = self.builders.push(hired);
         }
     }
 
-    // What the last builder's work is answered, whose builds end as the outcome lines say.
+    // The answer to the work of the last builder, whose builds end as the outcome lines say.
     pub(crate) fn work_alone<R: Wait>(
         &mut self,
         rt: &R,
@@ -154,6 +155,25 @@ impl<N: Named, C: Ledger> People<N, C> {
         let (answer, left) = work_of(rt, desk, last, &mut outcomes, &self.homes);
         self.keep(left);
         Some(answer)
+    }
+
+    // Whether the last builder's claim of a row wins.
+    pub(crate) fn hold(&mut self, desk: &Desk<'static, N, C>, row: usize) -> bool {
+        match self.builders.last_mut() {
+            Some(last) => desk.claim(row, &mut last.seat),
+            None => false,
+        }
+    }
+
+    // What the last builder is answered who ends its build so.
+    pub(crate) fn end<R: Wait>(
+        &mut self,
+        rt: &R,
+        desk: &Desk<'static, N, C>,
+        outcome: Outcome,
+    ) -> Option<Result<EntryNo, FinishRefusal>> {
+        let last = self.builders.last_mut()?;
+        Some(desk.finish(rt, &mut last.seat, outcome).answer())
     }
 
     // The last clerk goes home, with the receipts.

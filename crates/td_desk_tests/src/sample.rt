@@ -34,7 +34,7 @@ pub(crate) const NO_JOURNALS: [(&str, &str); 3] = [
     ),
 ];
 
-// The number behind another in a fixed sequence, by which calls are chosen.
+// The number after another in a fixed sequence, by which calls are chosen.
 pub(crate) fn next_number(number: u64) -> u64 {
     number
         .wrapping_mul(6_364_136_223_846_793_005)

@@ -1,4 +1,4 @@
-//! The reader of scripts: a line is a call at the desk, and behind `=>` what it is answered.
+//! The reader of scripts: a line is a call at the desk, and after `=>` its answer.
 ghost use Rattle.std.specs.Prelude.{◌≡◌, true};
 
 use crate::crew::{Style, crew};
@@ -6,7 +6,8 @@ use crate::overlap::work_together;
 use crate::people::{People, command};
 use crate::sample::TABLE;
 use crate::spelling::{
-    book_text, entry_line, key, number, on_one_line, receipts, row_line, shown, spelled, unlike,
+    book_text, entry_line, key, number, on_one_line, outcome, receipts, row_line, shown, spelled,
+    unlike,
 };
 use crate::tries::{CHANGED, Tries, lacks_memory};
 use crate::turns::work_in_turn;
@@ -20,7 +21,7 @@ use td_desk::{Clerk, Desk, Named};
 use td_journal::{EntryNo, text};
 use td_relation::Archs;
 
-// What a command of a clerk is answered.
+// The answer to a command of a clerk.
 fn take<N: Named, C: Ledger, R: Wait>(
     rt: &R,
     alloc: Global,
@@ -33,7 +34,7 @@ fn take<N: Named, C: Ledger, R: Wait>(
     spelled(alloc, &told)
 }
 
-// What an arrival that a clerk tells of is answered.
+// The answer to an arrival that a clerk reports.
 fn arrive<N: Named, C: Ledger, R: Wait>(
     rt: &R,
     alloc: Global,
@@ -45,7 +46,7 @@ fn arrive<N: Named, C: Ledger, R: Wait>(
     shown(alloc, &desk.arrive(rt, clerk, &key))
 }
 
-// What a clerk's call is answered.
+// The answer to a clerk's call.
 fn call<N: Named, C: Ledger, R: Wait>(
     rt: &R,
     alloc: Global,
@@ -62,7 +63,7 @@ fn call<N: Named, C: Ledger, R: Wait>(
     }
 }
 
-// What the clerk in this place is answered.
+// The answer to the clerk in this place.
 fn call_by<N: Named, C: Ledger, R: Wait>(
     rt: &R,
     desk: &Desk<'static, N, C>,
@@ -126,7 +127,7 @@ fn key_at<N: Named, C: Ledger>(
     Ok(String::from_str(alloc, name)?)
 }
 
-// What a line is answered that asks something, or that is a call of the first clerk.
+// The answer to a line that asks something, or that is a call of the first clerk.
 fn ask<N: Named, C: Ledger, R: Wait>(
     rt: &R,
     desk: &Desk<'static, N, C>,
@@ -146,7 +147,29 @@ fn ask<N: Named, C: Ledger, R: Wait>(
     }
 }
 
-// What a line is answered by which clerks do something among themselves, or any of those.
+// Whether the last builder's claim of a key's row wins.
+fn hold<N: Named, C: Ledger>(
+    desk: &Desk<'static, N, C>,
+    people: &mut People<N, C>,
+    text: &str,
+) -> Result<String, Fail> {
+    let key = key(people.alloc, text)?;
+    let row = desk.row_no(&key).ok_or("a row")?;
+    shown(people.alloc, &people.hold(desk, row))
+}
+
+// The answer to the end of the last builder's build.
+fn end<N: Named, C: Ledger, R: Wait>(
+    rt: &R,
+    desk: &Desk<'static, N, C>,
+    people: &mut People<N, C>,
+    text: &str,
+) -> Result<String, Fail> {
+    let outcome = outcome(people.alloc, text)?;
+    shown(people.alloc, &people.end(rt, desk, outcome))
+}
+
+// The answer to a line by which clerks do something among themselves, or to any of those.
 fn meet<N: Named, C: Ledger, R: Wait>(
     rt: &R,
     desk: &Desk<'static, N, C>,
@@ -174,7 +197,7 @@ fn shut<N: Named, C: Ledger, R: Wait>(
     shown(alloc, &true)
 }
 
-// What a line of a script is answered.
+// The answer to a line of a script.
 fn answer<N: Named + Send + Sync, C: Ledger + Send + Sync, R: Threads + Wait + Sync>(
     rt: &R,
     desk: &Desk<'static, N, C>,
@@ -192,6 +215,8 @@ fn answer<N: Named + Send + Sync, C: Ledger + Send + Sync, R: Threads + Wait + S
         "beside" => crew(rt, desk, people, Style::Work, number(rest)),
         "against" => crew(rt, desk, people, Style::Claim, number(rest)),
         "second" => call_by(rt, desk, people, 1, rest),
+        "hold" => hold(desk, people, rest),
+        "end" => end(rt, desk, people, rest),
         _ => meet(rt, desk, people, line),
     }
 }
@@ -208,7 +233,7 @@ fn whole<N: Named, C: Ledger, R: Wait>(
     Ok(format!(in alloc; "{clerks}{book}")?)
 }
 
-// What a line is answered that is asked once more, since its call lacked memory the first time. All
+// The answer to a line that is asked once more, since its call lacked memory the first time. All
 // has to be as it was before that call.
 fn answer_again<N: Named + Send + Sync, C: Ledger + Send + Sync, R: Threads + Wait + Sync>(
     rt: &R,
@@ -226,7 +251,7 @@ fn answer_again<N: Named + Send + Sync, C: Ledger + Send + Sync, R: Threads + Wa
     answer(rt, desk, people, line)
 }
 
-// What a line is answered, and where its call lacks memory, what it is answered the second time.
+// The answer to a line, or if its call lacks memory, the answer the second time.
 fn answer_with_memory<N: Named + Send + Sync, C: Ledger + Send + Sync, R: Threads + Wait + Sync>(
     rt: &R,
     desk: &Desk<'static, N, C>,

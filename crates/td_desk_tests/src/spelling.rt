@@ -24,7 +24,7 @@ pub(crate) fn shown(alloc: Global, answer: &impl Debug) -> Result<String, Fail> 
     Ok(format!(in alloc; "{answer:?}")?)
 }
 
-// The line of a script, with the answer, where that isn't the expected one.
+// The line of a script, with the answer, if that isn't the expected one.
 pub(crate) fn unlike(
     alloc: Global,
     line: &str,
@@ -53,7 +53,7 @@ pub(crate) fn outcome(alloc: Global, text: &str) -> Result<Outcome, Fail> {
     }
 }
 
-// The keys and reasons of skips, each behind a comma.
+// The keys and reasons of skips, each after a comma.
 fn put_skips(out: &mut String, skips: &Skips) -> Result<(), Fail> {
     for skip in skips.as_slice() {
         write!(out, ", {} {:?}", skip.key.as_str(), skip.reason)?;

@@ -7,17 +7,17 @@ use td_book::Job;
 use td_builder::Builds;
 use td_rows::Outcome;
 
-// What a clerk's call was answered.
+// The answer to a clerk's call.
 #[derive(Clone, Copy, PartialEq, Eq)]
 pub(crate) enum Answer {
     Accepted,
     Refused,
-    // As no call may be answered.
+    // An answer that no call may have.
     Wrong,
 }
 
-// What was counted: calls that were accepted, answers that no call may have, builds that began,
-// and builds that builders finished.
+// What was counted: calls that were accepted, answers that no call may have, builds that began, and
+// builds that builders finished.
 #[derive(Drop)]
 pub(crate) struct Tally {
     accepted: AtomicU64,
@@ -82,7 +82,7 @@ impl Tally {
         }
     }
 
-    // What was counted, after so many calls.
+    // What was counted, after this many calls.
     pub(crate) fn told(&self, alloc: Global, calls: u64) -> Result<String, Fail> {
         let begun = self.begun.load(Ordering::SeqCst);
         Ok(format!(in alloc;

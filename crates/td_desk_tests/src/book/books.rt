@@ -143,7 +143,7 @@ const WON: [(&str, &str, &str); 3] = [
     ("foo/amd64", "bar/amd64", "bar/i386"),
 ];
 
-// That the claim of a row blocks the undo of its entry, whose other rows stay on offer.
+// Checks that the claim of a row blocks the undo of its entry, whose other rows stay on offer.
 fn blocks(
     rt: &impl Abort,
     alloc: Global,

@@ -34,7 +34,7 @@ pub(crate) struct Desk {
     ghost three_at: { three.table ≡ board.table },
 }
 
-// A book that opens with these rows, over a journal where one is given.
+// A book that opens with these rows, over a journal if one is given.
 fn open_book(
     alloc: Global,
     board: &Board,
@@ -82,7 +82,7 @@ fn seated(
     })
 }
 
-// A desk with what it opens with, over a journal where one is given.
+// A desk with what it opens with, over a journal if one is given.
 fn desk_of(alloc: Global, shop: Shop, journal: Option<&str>) -> Result<Desk, Fail> {
     let Shop {
         board,
@@ -101,7 +101,7 @@ fn desk_of(alloc: Global, shop: Shop, journal: Option<&str>) -> Result<Desk, Fai
     }
 }
 
-// A desk that opens with these rows, over a journal where one is given.
+// A desk that opens with these rows, over a journal if one is given.
 pub(crate) fn open_desk(alloc: Global, opening: &str, journal: Option<&str>) -> Result<Desk, Fail> {
     match furnished(alloc, opening, 3) {
         Ok(shop) => desk_of(alloc, shop, journal),
@@ -146,13 +146,13 @@ pub(crate) fn refusal_of(alloc: Global, opening: &str, journal: &str) -> Result<
 }
 
 impl Desk {
-    // What a command is answered.
+    // The answer to a command.
     fn take(&mut self, command: &Command<'_>) -> Result<String, Fail> {
         let told = self.book.command(&self.board, command);
         spelled(self.alloc, &told)
     }
 
-    // What the command of a line is answered.
+    // The answer to the command of a line.
     pub(crate) fn command(&mut self, line: &str) -> Result<String, Fail> {
         let archs = Archs::read(self.alloc, TABLE)?;
         match read_command(self.alloc, line, &archs, &["unstable"]) {
@@ -217,7 +217,7 @@ impl Desk {
         shown(self.alloc, &finished)
     }
 
-    // Whether the first builder's build ends at the board alone, as an attempt.
+    // Whether the first builder's build ends only at the board, as an attempt.
     pub(crate) fn end(&mut self) -> Result<String, Fail> {
         let ended = match self.one.hand() {
             Hand::Holding(_) => self.board.finish(&mut self.one, OutcomeCode::Attempted),
@@ -251,7 +251,7 @@ impl Desk {
         shown(self.alloc, &swept)
     }
 
-    // Watches rows under so many groups.
+    // Watches rows under this many groups.
     pub(crate) fn watch(&mut self, groups: usize, rows: &[(Key, usize)]) -> Result<String, Fail> {
         let watched = self.book.watch(groups, rows);
         spelled_watch(self.alloc, &watched)

@@ -1,4 +1,4 @@
-//! The reader of scripts: a line is a call, and behind `=>` what it is answered.
+//! The reader of scripts: a line is a call, and after `=>` its answer.
 use super::desk::{Desk, open_desk};
 use crate::spelling::{key, number, unlike};
 use crate::tries::{CHANGED, Tries, lacks_memory};
@@ -25,14 +25,14 @@ fn groups(alloc: Global, words: &str) -> Result<Vec<(Key, usize)>, Fail> {
     Ok(rows)
 }
 
-// What a watch is answered, of which the number of the groups is the first word.
+// The answer to a watch, whose first word is the number of the groups.
 fn watch(desk: &mut Desk, text: &str) -> Result<String, Fail> {
     let (count, words) = text.split_once(' ').unwrap_or((text, ""));
     let rows = groups(desk.alloc, words)?;
     desk.watch(number(count) as usize, &rows)
 }
 
-// What a builder's call is answered, of which the builder's number is the first word.
+// The answer to a builder's call, whose first word is the builder's number.
 fn build(desk: &mut Desk, word: &str, rest: &str) -> Result<String, Fail> {
     let (builder, rest) = rest.split_once(' ').unwrap_or((rest, ""));
     match word {
@@ -42,7 +42,7 @@ fn build(desk: &mut Desk, word: &str, rest: &str) -> Result<String, Fail> {
     }
 }
 
-// What a line is answered that asks something, or that is a command.
+// The answer to a line that asks something, or that is a command.
 fn ask(desk: &mut Desk, line: &str) -> Result<String, Fail> {
     let (word, rest) = line.split_once(' ').unwrap_or((line, ""));
     match word {
@@ -54,7 +54,7 @@ fn ask(desk: &mut Desk, line: &str) -> Result<String, Fail> {
     }
 }
 
-// What a line of a script is answered.
+// The answer to a line of a script.
 pub(crate) fn answer(desk: &mut Desk, line: &str) -> Result<String, Fail> {
     let (word, rest) = line.split_once(' ').unwrap_or((line, ""));
     match word {
@@ -69,7 +69,7 @@ pub(crate) fn answer(desk: &mut Desk, line: &str) -> Result<String, Fail> {
     }
 }
 
-// What a line is answered that is asked once more, since its call lacked memory the first time. The
+// The answer to a line that is asked once more, since its call lacked memory the first time. The
 // desk has to be as it was before that call.
 fn answer_again(desk: &mut Desk, before: &str, line: &str) -> Result<String, Fail> {
     let now = desk.whole()?;
@@ -79,7 +79,7 @@ fn answer_again(desk: &mut Desk, before: &str, line: &str) -> Result<String, Fai
     answer(desk, line)
 }
 
-// What a line is answered, and where its call lacks memory, what it is answered the second time.
+// The answer to a line, or if its call lacks memory, the answer the second time.
 fn answer_with_memory(desk: &mut Desk, line: &str) -> Result<String, Fail> {
     let before = desk.whole()?;
     let told = answer(desk, line)?;
@@ -115,7 +115,7 @@ fn journal_of(desk: &mut Desk, script: &str, tries: Tries) -> Result<String, Fai
     Ok(text(desk.alloc, desk.book.journal())?)
 }
 
-// The journal after a script at a desk that opens with these rows, over a journal where one is
+// The journal after a script at a desk that opens with these rows, over a journal if one is
 // given; or its first line that is answered otherwise, with the answer.
 pub(crate) fn journal_after(
     alloc: Global,

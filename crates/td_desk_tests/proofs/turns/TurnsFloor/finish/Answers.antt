@@ -1,4 +1,4 @@
--- `Turns::finish`: an end that the desk refused, of which this floor says nothing more.
+-- `Turns::finish`: an end that the desk refused; this floor says nothing more of it.
 use Rattle.std.proofs.Common.{OnErr, Result, Ok, Err, inl, inr, subst, sym, ℕ}
 use Rattle.td_rows.specs.declared.outcome.Outcome.{Outcome}
 use Rattle.td_board.specs.Seats.{BuilderModel}
