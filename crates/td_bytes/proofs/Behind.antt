@@ -10,7 +10,7 @@ take-filled bs zs start end is fits =
     ap (λ k. take k (take end bs ++ zs)) is
     ∙ ap (λ xs. take (length bs) (xs ++ zs)) (take_all end bs fits) ∙ take-append_seam bs zs
 
--- the list, cut behind what was read, where the read left its front as it was
+-- the list, cut after what was read, if the read left its front as it was
 pub take-read : (bs xs bf rest : List ℕ) (start len n : ℕ) → take start xs ≡ bs → len ≡ length bf
     → take start bf ≡ take start xs
     → take (start + n) (take len (bf ++ rest)) ≡ bs ++ take n (drop start bf)

@@ -2,7 +2,7 @@
 use Rattle.std.proofs.Common.{◌≡◌, ◌⊎◌, ◌+◌, ◌<◌, ◌≤◌, ℕ, Bool, true}
 use Rattle.td_bytes.specs.Failures.{most_tries}
 
--- what the loops keep that try a call again: so many tries were interrupted, or calls may fail
+-- what the loops keep that try a call again: this many tries were interrupted, or calls may fail
 abbrev pub AreBorne : Bool → ℕ → ℕ → ℕ → Type 0
 AreBorne can_fail tries before after =
     (can_fail ≡ true)

@@ -4,7 +4,7 @@ use Rattle.std.specs.IoError.{error_kind}
 use Rattle.std.specs.declared.io.Error.{Error}
 use Rattle.std.specs.declared.io.ErrorKind.TheVariants.{Interrupted}
 
--- how often a call is tried where signals interrupt it
+-- how often a call is tried if signals interrupt it
 abbrev pub most_tries : ℕ
 most_tries = 2 ^ 64 - 1
 
@@ -14,7 +14,7 @@ abbrev pub IsInterruption : ℕ → ℕ → Error → Type 0
 IsInterruption before after error =
     (error_kind error ≡ Interrupted) × (after < before) × (before < most_tries)
 
--- a call fails where it may, by whatever, and else by a signal alone
+-- a call that may fail fails by whatever, and any other only by a signal
 abbrev pub IsDue : {T : Type 0} → Bool → ℕ → ℕ → Result T Error → Type 0
 IsDue can_fail before after result =
     IfErr result (λ error. (can_fail ≡ true) ⊎ IsInterruption before after error)
@@ -25,7 +25,7 @@ StaysUnlessFailed before after result =
     MatchResult result (λ _. after ≡ before) (λ error.
     error_kind error ≡ Interrupted → after ≡ before)
 
--- the same of a write, which fails too where it takes no byte
+-- whether calls may fail is as before, unless a write takes no byte, or fails by no signal
 abbrev pub StaysUnlessFull : Bool → Bool → Result ℕ Error → Type 0
 StaysUnlessFull before after result =
     MatchResult result (λ count. 0 < count → after ≡ before) (λ error.

@@ -1,4 +1,4 @@
--- What a reader has lost, and what a writer holds, where a call stopped midway.
+-- What a reader has lost, and what a writer holds, if a call stopped midway.
 use Rattle.std.specs.Prelude.{◌≡◌, ◌≤◌, ◌<◌, ℕ, List, ◌++◌, Option, length}
 use Rattle.td_bytes.specs.declared.reading.ReadFault.{ReadFault}
 use Rattle.td_bytes.specs.declared.reading.ReadFault.TheVariants.{CannotRead, TooLong, NoMemory}

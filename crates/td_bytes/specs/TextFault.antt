@@ -1,4 +1,4 @@
--- Why no text is read where no bytes are.
+-- Why no text is read if no bytes are.
 use Rattle.td_bytes.specs.declared.reading.ReadFault.{ReadFault}
 use Rattle.td_bytes.specs.declared.reading.ReadFault.TheVariants as read
 use Rattle.td_bytes.specs.declared.text.TextFault.{TextFault}

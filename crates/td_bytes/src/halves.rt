@@ -12,7 +12,7 @@ use std::thread::Threads;
 // How many bytes are looked at for a place where a file may be cut.
 const WINDOW: usize = 65_536;
 
-// A place between two newlines behind the middle of a file, if there is one near.
+// A place between two newlines after the middle of a file, if there is one near.
 fn cut_of<F: Positioned>(alloc: Global, file: &F, size: usize) -> Option<usize> {
     let middle = size / 2;
     let mut window = Vec::new(alloc);
@@ -23,7 +23,7 @@ fn cut_of<F: Positioned>(alloc: Global, file: &F, size: usize) -> Option<usize> 
     middle.checked_add(at)?.checked_add(1)
 }
 
-// The bytes of a file before a place, as a text, if it has so many.
+// The bytes of a file before a place, as a text, if it has that many.
 fn front_before<F: Positioned>(alloc: Global, file: &F, place: usize) -> Option<String>
     ensures { IfSome result (λ front.
         IfSome (F.bytes file.now) (λ all. string_bytes front ≡ take place all)) }
@@ -35,7 +35,7 @@ fn front_before<F: Positioned>(alloc: Global, file: &F, place: usize) -> Option<
     }
 }
 
-// The bytes of a file from a place to its end, as a text of at most so many bytes.
+// The bytes of a file from a place to its end, as a text of at most `limit` bytes.
 fn rest_behind<F: Positioned>(
     alloc: Global,
     file: &F,
@@ -56,7 +56,7 @@ fn rest_behind<F: Positioned>(
     }
 }
 
-// Both parts, where both were read, of at most so many bytes.
+// Both parts, if both were read and have at most `limit` bytes together.
 fn both(front: Option<String>, rest: Option<String>, limit: usize) -> Option<(String, String)>
     ensures parts { IfSome result (λ p. (front ≡ Some p.0) × (rest ≡ Some p.1)) }
     ensures within { IfSome result (λ p.
@@ -72,7 +72,7 @@ fn both(front: Option<String>, rest: Option<String>, limit: usize) -> Option<(St
 }
 
 /// Reads a file of about `size` bytes as two texts, which together have at most `limit` bytes. It
-/// is cut between two newlines behind its middle; `None` where it isn't read so, for whatever
+/// is cut between two newlines after its middle; `None` if it isn't read so, for whatever
 /// reason.
 pub fn halves_of<F: Positioned + Sync, R: Threads>(
     rt: &R,

@@ -3,8 +3,8 @@
 //!
 //! Start at `read_text` and `write_whole`; a file is read as two texts by `halves_of`.
 //! Promised, of any reader and writer whose bytes clauses know: `Ok` is all that remained, within
-//! the limit, and TooLong only where more did; a write that fails leaves a front of the bytes.
-//! Of a stream that can't fail no call says that it did: `Reader` and `Writer` say which can.
+//! the limit, and TooLong only if more did; a write that fails leaves a front of the bytes.
+//! No call says that a stream failed which can't fail: `Reader` and `Writer` say which can.
 #![tactic(auto)]
 
 mod files;

@@ -14,7 +14,7 @@ impl Reader for &[u8] {
     }
 }
 
-// A write fails where memory runs out.
+// A write fails if memory runs out.
 impl<A: Allocator> Writer for Vec<u8, A> {
     ghost use Rattle.std.specs.Prelude.{true};
 

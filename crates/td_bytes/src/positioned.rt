@@ -5,17 +5,17 @@ use crate::streams::Reader;
 use std::io;
 use std::io::{ErrorKind, Read};
 
-/// Bytes of which any are read, as those of an open file.
+/// Bytes that are read at any place, as those of an open file.
 pub trait Positioned {
     ghost use Rattle.std.specs.Prelude.{◌≡◌, ◌<◌, ◌+◌, ℕ, List, Option, IfOk, length, take};
     ghost use Rattle.std.specs.Io.{ReadsAtMost};
     ghost use Rattle.std.specs.Io.KnownBytes.{Consumes, IsAtEnd};
     ghost use Rattle.td_bytes.specs.Places.{bytes_behind};
 
-    // The bytes, where clauses know them.
+    // The bytes, if clauses know them.
     ghost bytes: { Self → Option (List ℕ) };
 
-    /// One read at a place. It gives no byte only at the end, or where there is no room.
+    /// One read at a place. It gives no byte only at the end, or if there is no room.
     fn read_at(&self, buffer: &mut [u8], place: u64) -> io::Result<usize>
         ensures bound { ReadsAtMost result buffer.new }
         ensures read { IfOk result (λ n. Consumes (bytes_behind (bytes self.now) place)
@@ -25,7 +25,7 @@ pub trait Positioned {
 }
 
 // The bytes from a place on. Several readers share an open file, so that they read one file also
-// where its name is given to another meanwhile.
+// if its name is given to another meanwhile.
 #[derive(Drop)]
 pub(crate) struct Behind<'f, F> {
     pub(crate) file: &'f F,

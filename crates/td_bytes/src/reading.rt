@@ -48,7 +48,7 @@ pub(crate) fn is_interrupted(error: &io::Error) -> bool
     error.kind() == ErrorKind::Interrupted
 }
 
-// One read, tried again where a signal interrupts it: as std does, at most 2^64 times.
+// One read, tried again if a signal interrupts it: as std does, at most 2^64 times.
 fn read_piece<R: Reader>(reader: &mut R, buffer: &mut [u8]) -> Result<usize, ReadFault>
     ensures bound { ReadsAtMost result buffer.new }
     ensures ok { IfOk result (λ n.
@@ -86,7 +86,7 @@ fn read_from<R: Reader>(reader: &mut R, buffer: &mut [u8], at: usize) -> Result<
     read_piece(reader, &mut buffer[at..])
 }
 
-// Reads a piece behind what was read before, straight into its place.
+// Reads a piece after what was read before, straight into its place.
 fn read_behind<R: Reader>(reader: &mut R, bytes: &mut Vec<u8>) -> Result<usize, ReadFault>
     ensures ok { IfOk result (λ n. (piece : List ℕ) × (length piece ≡ n)
         × (bytes.new.items ≡ bytes.old.items ++ piece)
@@ -157,7 +157,7 @@ pub fn read_pieces<R: Reader>(
 }
 
 /// Reads all that remains, of at most `limit` bytes. There is room for `room` bytes from the first:
-/// where that is how many remain, no byte is moved again. What was read before a fault is lost.
+/// if that is how many remain, no byte is moved again. What was read before a fault is lost.
 pub fn read_whole<R: Reader>(
     alloc: Global,
     reader: &mut R,

@@ -13,7 +13,7 @@ pub trait Reader: Read {
     // Whether a read may fail, but by a signal that interrupts it. It stays so until one fails.
     ghost can_fail: { Self → Bool };
 
-    // How many reads signals may interrupt yet, at most, where none may fail.
+    // How many reads signals may interrupt yet, at most, if none may fail.
     ghost interruptions: { Self → ℕ } = { λ _. 0 };
 
     /// One read, as std's `read`.
@@ -37,7 +37,7 @@ pub trait Writer: Write {
     // bytes. It stays so until one does.
     ghost can_fail: { Self → Bool };
 
-    // How many calls signals may interrupt yet, at most, where none may fail.
+    // How many calls signals may interrupt yet, at most, if none may fail.
     ghost interruptions: { Self → ℕ } = { λ _. 0 };
 
     /// One write, as std's `write`.

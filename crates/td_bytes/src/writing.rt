@@ -12,7 +12,7 @@ use thiserror::Error;
 #[error("cannot write")]
 pub struct WriteFault;
 
-// One write, tried again where a signal interrupts it: as std does, at most 2^64 times.
+// One write, tried again if a signal interrupts it: as std does, at most 2^64 times.
 fn write_piece<W: Writer>(writer: &mut W, bytes: &[u8]) -> Result<usize, WriteFault>
     ensures bound { IfOk result (λ n. (0 < n) × (n ≤ length bytes.now)) }
     ensures ok { IfOk result (λ n.
@@ -32,7 +32,7 @@ fn write_piece<W: Writer>(writer: &mut W, bytes: &[u8]) -> Result<usize, WriteFa
     Err(WriteFault)
 }
 
-// The same of a flush.
+// One flush, tried again if a signal interrupts it: as std does, at most 2^64 times.
 fn flush<W: Writer>(writer: &mut W) -> Result<(), WriteFault>
     ensures kept { Keeps (W.contents writer.old) (W.contents writer.new) }
     ensures due { OnErr result (W.can_fail writer.old ≡ true) }
@@ -49,7 +49,7 @@ fn flush<W: Writer>(writer: &mut W) -> Result<(), WriteFault>
 }
 
 /// Writes all of the bytes, and flushes. A fault leaves a front of them written: none, some, or
-/// all where the flush failed.
+/// all if the flush failed.
 pub fn write_whole<W: Writer>(writer: &mut W, bytes: &[u8]) -> Result<(), WriteFault>
     ensures whole { OnOk result
         (Appends (W.contents writer.old) (W.contents writer.new) bytes.now) }

@@ -17,7 +17,7 @@ by_parts n k s a b = λ i. record { number = a i; offset = b i; line = s.line }
 
 -- ---- lines
 
--- the spot among lines of which the first has this number
+-- the spot among lines that are counted from this number on
 record IsAmong (n number : ℕ) (lines : List (List ℕ)) (s : SpotWords) : Type 0 where
   before : List (List ℕ)
   after : List (List ℕ)
@@ -94,7 +94,7 @@ lines_are_exact n text s some = (
 
 -- ---- bytes
 
--- the place among lines of which the first has this number
+-- the spot of a byte among lines that are counted from this number on
 record IsByteAmong (at number : ℕ) (lines : List (List ℕ)) (s : SpotWords) : Type 0 where
   before : List (List ℕ)
   after : List (List ℕ)

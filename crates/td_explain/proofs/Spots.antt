@@ -18,7 +18,7 @@ begins : (point : Point) (apart : Bool) (n : ℕ) (o : Option (Bor (List ℕ))) 
 begins point apart n o t line after total is cut h =
     sym (ap (spot_in point apart n) (ap lines_left is ∙ cut)) ∙ h
 
--- the place is behind this line
+-- the place is after this line
 behind : (point : Point) (apart : Bool) (n : ℕ) (line : List ℕ) (after : List (List ℕ))
     (total : Option SpotWords)
     → is_at point apart line ≡ false → spot_in point apart n (line ∷ after) ≡ total

@@ -115,7 +115,7 @@ over_more n number (line ∷ own) lines h =
     over_own n number line (own ++ lines) h.0 ∙ over_more n (number + 1) own lines h.1
     ∙ ap (λ (k : ℕ). spot_in (Stanza n) false k lines) e
 
--- behind a separator, or where nothing comes, no stanza is open
+-- after a separator, or if nothing comes, no stanza is open
 closed : (n number : ℕ) (lines : List (List ℕ)) → BeginsApart lines
     → spot_in (Stanza n) false number lines ≡ spot_in (Stanza n) true number lines
 unfolding spot_in
@@ -141,7 +141,7 @@ over_stanza n number stanza own lines low s apart =
 
 -- ---- the stanza with a number
 
--- the stanza among lines of which the first has this number
+-- the stanza among lines that are counted from this number on
 record IsFound (earlier : List (List Entry)) (stanza : List Entry) (later : List (List Entry))
     (number : ℕ) (lines : List (List ℕ)) : Type 0 where
   before : List (List ℕ)

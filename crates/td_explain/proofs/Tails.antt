@@ -1,4 +1,4 @@
--- A line from a place on, where that is text.
+-- A line from a place on, if that is text.
 use Rattle.std.proofs.Common.{◌≡◌, ℕ, Bool, true, false, List, drop, if◌then◌else◌, refl, ap, subst}
 use Rattle.std.proofs.Common.{◌∙◌}
 use Rattle.std.specs.Prelude.{IsUtf8}

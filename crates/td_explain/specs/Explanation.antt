@@ -14,7 +14,7 @@ point_name (Line number) = codes "line " ++ decimal number
 point_name (Stanza number) = codes "stanza " ++ decimal number
 point_name (Byte at) = codes "byte " ++ decimal at
 
--- where it is found: of a stanza its line, and of a byte its line and its column; both count from
+-- where a place is found: a stanza by its line, and a byte by its line and column; both count from
 -- 1, a column by bytes
 abbrev pub found_name : Point → SpotWords → List ℕ
 found_name (Line number) spot = []
@@ -22,27 +22,27 @@ found_name (Stanza number) spot = codes ", line " ++ decimal spot.number
 found_name (Byte at) spot =
     codes ", line " ++ (decimal spot.number ++ (codes ", column " ++ decimal (spot.offset + 1)))
 
--- the line from the place on; all of it where the place is within a character
+-- the line from the place on; all of it if the place is within a character
 abbrev pub text_at : SpotWords → List ℕ
 text_at spot =
     if is_utf8 (drop spot.offset spot.line) then drop spot.offset spot.line else spot.line
 
--- what stands there
+-- what is at a place
 abbrev pub said_of : Point → Option SpotWords → List ℕ
 said_of point None = point_name point
 said_of point (Some spot) =
     point_name point ++ (found_name point spot ++ (codes " has " ++ shown (chars (text_at spot))))
 
--- of the text as a whole nothing is said
+-- what the line says of a place in the text; nothing of the text as a whole
 abbrev pub said_if : Option Point → List ℕ → List ℕ
 said_if None text = []
 said_if (Some point) text = said_of point (spot_of point text) ++ codes "; "
 
--- what is said of a place
+-- what the line says of any place
 abbrev pub place_said : Place → List ℕ → List ℕ
 place_said place text = said_if (point_of place) text
 
--- the line: the text's role, what stands at the place, and what is wanted
+-- the line: the text's role, what is at the place, and what is wanted
 abbrev pub explanation : List ℕ → Place → List ℕ → List ℕ → List ℕ
 explanation role place wanted text =
     role ++ (place_said place text ++ (codes "wanted: " ++ (wanted ++ codes "\n")))

@@ -11,12 +11,12 @@ max_shown = 60
 abbrev pub escaped : ℕ → List ℕ
 escaped c = 92 ∷ 120 ∷ (encode_utf8 (digit_char (c / 16)) ++ encode_utf8 (digit_char (c % 16)))
 
--- a control character (U+0000 to U+001F, U+007F to U+009F) is escaped, and any other stands for
+-- a control character (U+0000 to U+001F, U+007F to U+009F) is escaped, and any other is shown as
 -- itself
 abbrev pub shown_char : ℕ → List ℕ
 shown_char c = if is_control c then escaped c else encode_utf8 c
 
--- so many characters at most, and a quotation mark behind them; three dots where more follow
+-- this many characters at most, and a quotation mark after them; three dots if more follow
 unfoldable pub shown_from : ℕ → List ℕ → List ℕ
 shown_from left [] = 34 ∷ []
 shown_from zero (c ∷ cs) = 34 ∷ 46 ∷ 46 ∷ 46 ∷ []

@@ -10,17 +10,17 @@ use Rattle.td_explain.specs.declared.spot.Point.{Point}
 use Rattle.td_explain.specs.declared.spot.Point.TheVariants.{Line, Stanza, Byte}
 use Rattle.td_explain.specs.declared.spot.Spot.{Spot}
 
--- a line's number, from 1 on, behind how many of its bytes the place is, and the line
+-- a line's number, from 1 on, how many of its bytes come before the place, and the line
 pub record SpotWords : Type 0 where
   pub number : ℕ
   pub offset : ℕ
   pub line : List ℕ
 
--- those of a value
+-- the words of a spot
 abbrev pub spot_words : Spot → SpotWords
 spot_words s = record { number = s.number; offset = s.offset; line = s.line.now }
 
--- the same place within its text; the text as a whole is none
+-- a place within its text; the text as a whole is none
 abbrev pub point_of : Place → Option Point
 point_of place.Whole = None
 point_of (place.Line number) = Some (Line number)
@@ -34,8 +34,8 @@ is_at (Line number) apart line = nat_le number 1
 is_at (Stanza number) apart line = apart && (nat_le number 1 && not (is_separator line))
 is_at (Byte at) apart line = nat_le at (length line)
 
--- the same place, counted from behind that line: a line fewer, a stanza fewer where one began, or
--- less by the line's bytes and its newline
+-- a place, counted from after this line: a line fewer, a stanza fewer if one began, or less by the
+-- line's bytes and its newline
 abbrev pub beyond : Point → Bool → List ℕ → Point
 beyond (Line number) apart line = Line (number - 1)
 beyond (Stanza number) apart line =
@@ -48,7 +48,7 @@ offset_of (Line number) = 0
 offset_of (Stanza number) = 0
 offset_of (Byte at) = at
 
--- the place among lines of which the first has this number
+-- the place among lines that are counted from this number on
 unfoldable pub spot_in : Point → Bool → ℕ → List (List ℕ) → Option SpotWords
 spot_in point apart number [] = None
 spot_in point apart number (line ∷ lines) =

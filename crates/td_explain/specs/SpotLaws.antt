@@ -7,7 +7,7 @@ use Rattle.td_stanza.specs.StanzaGrammar.{IsStanza, AreStanzas}
 use Rattle.td_explain.specs.declared.spot.Point.TheVariants.{Line, Stanza, Byte}
 use Rattle.td_explain.specs.Spot.{SpotWords, spot_of}
 
--- The spot is in the line with this number: as many lines but one stand before it.
+-- The spot is in the line with this number: one line fewer comes before it.
 pub record IsLine (n : ℕ) (text : List ℕ) (s : SpotWords) : Type 0 where
   pub before : List (List ℕ)
   pub after : List (List ℕ)
@@ -16,7 +16,7 @@ pub record IsLine (n : ℕ) (text : List ℕ) (s : SpotWords) : Type 0 where
   pub number : s.number ≡ n
   pub front : s.offset ≡ 0
 
--- The spot is behind so many bytes of the text: those of the lines before its own, each with its
+-- The spot is after this many bytes of the text: those of the lines before its own, each with its
 -- newline, and then those before it in its line, or all of them.
 pub record IsByte (at : ℕ) (text : List ℕ) (s : SpotWords) : Type 0 where
   pub before : List (List ℕ)

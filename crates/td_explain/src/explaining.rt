@@ -31,7 +31,7 @@ fn put_point(out: &mut String, point: Point) -> Result<(), AllocError>
     }
 }
 
-// Appends where it is found.
+// Appends where a place is found.
 fn put_found(out: &mut String, point: Point, spot: &Spot<'_>) -> Result<(), AllocError>
     requires { spot.now.offset < 2 ^ 63 }
     ensures { OnOk result (string_bytes out.new
@@ -52,7 +52,7 @@ fn put_found(out: &mut String, point: Point, spot: &Spot<'_>) -> Result<(), Allo
     }
 }
 
-// The line from the place on; all of it where the place is within a character.
+// The line from the place on; all of it if the place is within a character.
 fn text_at<'a>(spot: &Spot<'a>) -> &'a str
     requires { spot.now.offset ≤ length spot.now.line.now }
     ensures { result.now ≡ text_at_of (spot_words spot.now) }
@@ -64,7 +64,7 @@ fn text_at<'a>(spot: &Spot<'a>) -> &'a str
     }
 }
 
-// Appends what stands at the place.
+// Appends what is at the place.
 fn put_said(out: &mut String, point: Point, spot: Option<Spot<'_>>) -> Result<(), AllocError>
     requires { IfSome spot (λ s. (s.offset ≤ length s.line.now) × (length s.line.now < 2 ^ 63)) }
     ensures { OnOk result (string_bytes out.new
@@ -79,8 +79,8 @@ fn put_said(out: &mut String, point: Point, spot: Option<Spot<'_>>) -> Result<()
     put_shown(out, text_at(&spot))
 }
 
-// Appends what stands at a place of the text, and what parts it from what is wanted. Nothing is
-// said of the text as a whole, and that takes no memory.
+// Appends what is at a place of the text, and what parts it from what is wanted. Nothing is
+// appended for the text as a whole, and that takes no memory.
 fn put_where(out: &mut String, place: Place, text: &str) -> Result<(), AllocError>
     requires { length text.now < 2 ^ 63 }
     ensures said { OnOk result (string_bytes out.new
@@ -94,7 +94,7 @@ fn put_where(out: &mut String, place: Place, text: &str) -> Result<(), AllocErro
     out.push_str("; ")
 }
 
-/// The line that says what stands at a place of the text with this role, and what is wanted there.
+/// The line that says what is at a place of the text with this role, and what is wanted there.
 /// `places_are_found` says which line, stanza or byte a place is.
 pub fn explain(
     alloc: Global,

@@ -2,8 +2,8 @@
 ghost use Rattle.td_explain.specs.SpotLaws.{BytesAreExact, LinesAreExact, NoMoreAreFound};
 ghost use Rattle.td_explain.specs.SpotLaws.{StanzasAreFound};
 
-/// A line and a byte are found by their numbers exactly where they stand, in words of the text's
-/// lines. Where a text is stanzas, each is found by its number at its first line, and no further
+/// A line and a byte are found by their numbers exactly where they are, in words of the text's
+/// lines. If a text is stanzas, each is found by its number at its first line, and no further
 /// number finds one.
 pub fn places_are_found()
     ensures lines { LinesAreExact }

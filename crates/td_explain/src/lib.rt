@@ -4,7 +4,7 @@
 //! as the readers of the formats count them, and the text is looked for again by its lines.
 //! Promised: the line is the stated one (`specs/Explanation.antt`), with the text at the place that
 //! is meant (`specs/Spot.antt`; which line, stanza or byte that is, `specs/SpotLaws.antt` says in
-//! other words), cut behind 60 characters and with no control character (`specs/Shown.antt`).
+//! other words), cut after 60 characters and with no control character (`specs/Shown.antt`).
 #![tactic(auto)]
 
 mod explaining;

@@ -20,7 +20,7 @@ fn hex_digit(value: u32) -> char
     }
 }
 
-// Appends the character, or its escape where it is a control character.
+// Appends the character, or its escape if it is a control character.
 fn put_char(out: &mut String, c: char) -> Result<(), AllocError>
     ensures { OnOk result (string_bytes out.new ≡ string_bytes out.old ++ shown_char c) }
 {

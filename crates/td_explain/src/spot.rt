@@ -16,7 +16,7 @@ pub enum Place {
     Line(usize),
     /// The stanza with this number, from 1 on.
     Stanza(usize),
-    /// The byte behind so many others.
+    /// The byte after this many others.
     Byte(usize),
 }
 
@@ -27,11 +27,11 @@ pub enum Point {
     Line(usize),
     /// The stanza with this number, from 1 on.
     Stanza(usize),
-    /// The byte behind so many others.
+    /// The byte after this many others.
     Byte(usize),
 }
 
-/// The line that is meant, its number, and behind how many of its bytes the place is.
+/// The line that is meant, its number, and how many of its bytes come before the place.
 #[derive(Clone, Copy)]
 pub struct Spot<'a> {
     pub number: usize,
@@ -39,7 +39,7 @@ pub struct Spot<'a> {
     pub line: &'a str,
 }
 
-/// The same place within its text, where it is within.
+/// The place within its text, unless it is the text as a whole.
 pub fn point_of(place: Place) -> Option<Point>
     ensures { result ≡ point_of_of place }
 {
@@ -51,7 +51,7 @@ pub fn point_of(place: Place) -> Option<Point>
     }
 }
 
-// Whether the line is spaces and tabs alone.
+// Whether the line is only spaces and tabs.
 fn is_separator(line: &str) -> bool
     ensures { result ≡ is_separator_of line.now }
 {
@@ -69,7 +69,7 @@ fn is_at(point: Point, apart: bool, line: &str) -> bool
     }
 }
 
-// The same place, as it is counted behind the line.
+// The place as it is counted after the line.
 fn beyond(point: Point, apart: bool, line: &str) -> Point
     ensures { result ≡ beyond_of point apart line.now }
 {
@@ -83,7 +83,7 @@ fn beyond(point: Point, apart: bool, line: &str) -> Point
     }
 }
 
-// Behind how many bytes of its line the place is.
+// How many bytes of its line come before the place.
 fn offset_of(point: Point) -> usize
     ensures { result ≡ offset_of_of point }
 {

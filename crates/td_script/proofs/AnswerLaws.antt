@@ -55,7 +55,7 @@ IsPut-and text before now is (Ok u) said same it =
 IsPut-and text before now is (Err e) said same it =
     subst (λ r. IfOk r (IsPut text is before now)) (sym same) tt
 
--- the same of an entry that is found
+-- the line of an entry is put, if that is found, and the script's line isn't refused
 pub IsEntryPut-and : {E : Type 0} (ms : List Marked) (n : ℕ) (before now : List ℕ)
     (put : Result (Unit {0}) E) (said : Result Bool E) → said ≡ result_and put (Ok false)
     → ((m : Marked) → entry_at ms n ≡ Some m
@@ -70,7 +70,7 @@ IsEntryPut-and ms n before now (Ok u) said same it =
 IsEntryPut-and ms n before now (Err e) said same it =
     subst (λ r. IfOk r (IsEntryPut ms n [] before now)) (sym same) tt
 
--- where nothing is put for want of memory, nothing is said
+-- if a put appends nothing when memory runs out, neither does the whole answer
 pub OnErr-and : {E : Type 0} (before now : List ℕ) (is : Bool) (put : Result (Unit {0}) E)
     (said : Result Bool E) → said ≡ result_and put (Ok is) → OnErr put (now ≡ before)
     → OnErr said (now ≡ before)
@@ -79,7 +79,7 @@ OnErr-and before now is (Ok u) said same it =
 OnErr-and before now is (Err e) said same it =
     subst (λ r. OnErr r (now ≡ before)) (sym same) it
 
--- where there is no room, nothing is appended
+-- if there is no room, nothing is appended
 pub OnErr-pushed : {E : Type 0} (before now text : List ℕ) (put : Result (Unit {0}) E)
     → now ≡ (if is_ok put then before ++ text else before) → OnErr put (now ≡ before)
 OnErr-pushed before now text (Ok u) is = tt
@@ -91,7 +91,7 @@ pub OnOk-pushed : {E : Type 0} (before now text : List ℕ) (put : Result (Unit 
 OnOk-pushed before now text (Ok u) is = is
 OnOk-pushed before now text (Err e) is = tt
 
--- nothing changes, and a text is said
+-- nothing changes, and a text is the answer
 pub Answers-said : (text : List ℕ) (book : BookModel) (before now : List ℕ) (refused : Bool)
     → IsPut text false before now refused
     → Answers (says book.history text) book book before now refused
@@ -135,7 +135,7 @@ Answers-refused name old new before now refused is put = record {
   fixed = ap (λ (b : BookModel). b.fixed) is;
 }
 
--- the same of a call that refuses the line
+-- a call that refuses the line changes nothing, and names the refusal
 pub Answers-refuse : {E : Type 0} (name : List ℕ) (book : BookModel) (before now : List ℕ)
     (said : Result Bool E) → IfOk said (IsPut (refusal_line name) true before now)
     → IfOk said (Answers (refuses book.history name []) book book before now)
@@ -146,7 +146,7 @@ Answers-refuse name book before now said put =
 
 -- ---- 3. calls
 
--- what is appended behind a line is appended with it
+-- what is appended after a line is appended with it
 pub OnOk-behind : {E : Type 0} (before mid now line behind : List ℕ) (put : Result (Unit {0}) E)
     → mid ≡ before ++ line → OnOk put (now ≡ mid ++ behind)
     → OnOk put (now ≡ before ++ (line ++ behind))
@@ -230,7 +230,7 @@ Answers-undo None n old new (Err undos.NotACommand) before now refused none is p
 Answers-undo None n old new (Err undos.AlreadyUndone) before now refused none is put =
     absurd is.outcome
 
--- ---- 4. what a call leaves, whatever is told of it
+-- ---- 4. what a call leaves, whatever its answer is
 
 -- a book that stays as it was
 pub left_still : (r : Reply) (b : BookModel) → IsLeftBy r b b

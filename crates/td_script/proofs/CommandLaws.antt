@@ -36,7 +36,7 @@ alone old keys choices none chosen =
 abbrev entry : BookModel → CommandParts → Entry
 entry b c = record { kind = kind_of c; keys = taken b.fixed.stock b.history c }
 
--- the rows that it names and doesn't take, of rows
+-- the rows that a command names and doesn't take, of rows
 abbrev left : BookModel → CommandParts → Table → List Skip
 left b c = skips_of (is_matched_in c b) (kind_of c) (named_by c b)
 
@@ -99,7 +99,7 @@ Answers-command c old new ms (Err (refusals.NothingApplies s)) before now refuse
     Answers-nothing c old new s before now refused none h put
 Answers-command c old new ms (Err refusals.NoMemory) before now refused none same h put = absurd put
 
--- what a command leaves, whatever is told of it
+-- what a command leaves, whatever its answer is
 pub left_command : (c : CommandParts) (old new : BookModel) (a : Result Taken CommandRefusal)
     → old.fixed.builders ≡ 0 → IsDone c old new a
     → IsLeftBy (commands old.fixed.stock old.history c) old new

@@ -1,4 +1,4 @@
--- What is told of a script is told of its parts.
+-- The answers to a script are those to its parts.
 use Rattle.std.proofs.Common.{◌≡◌, ℕ, ◌+◌, List, [], ◌∷◌, ◌++◌, fold, Some, refl, sym, ap, ap₂, ◌∙◌}
 use Rattle.std.proofs.Common.{arith, if◌then◌else◌}
 use Rattle.std.proofs.lemmas.List.{append-nil, append_assoc}
@@ -13,7 +13,7 @@ use Rattle.td_script.specs.Replies.{Reply, Setting, answer}
 use Rattle.td_script.specs.Script.{Told, begun, script, with_line}
 use Rattle.td_script.specs.Cutting.{CutScriptsTellTheSame, IsLeftAs, joined}
 
--- ---- 1. what is told behind what was told
+-- ---- 1. answers after earlier answers
 
 one_more : (s : Setting) (t u : Told) (line : List ℕ)
     → with_line s (joined t u) line ≡ joined t (with_line s u line)

@@ -27,7 +27,7 @@ use Rattle.td_script.specs.Ends.{IsScriptText, MayStop, Only}
 use Rattle.td_script.specs.OpeningInside.{Stops, of_reading, opening_texts}
 use Rattle.td_script.proofs.WithoutJournal.{archive_bare}
 
--- want of memory
+-- a run may stop because memory ran out
 pub memory_stops : (x : Texts) (e : RunFault) → e ≡ NoMemory → Stops x e
 memory_stops x e is = subst (Stops x) (sym is) tt
 
@@ -47,7 +47,7 @@ journal_over c x rows are readable =
     subst (λ t. IsJournalIfGiven t x.journal)
     (rows_same c x.state readable.rows rows readable.are_rows are) readable.journal
 
--- a text that is a journal over these rows is refused for want of memory alone
+-- a text that is a journal over these rows is refused only if memory runs out
 pub reopen_stops : {B : Type 0} (P : List Marked → B → Type 0) (rows : Table) (text : List ℕ)
     (r : Result B ReadError)
     → ((ms : List Marked) → IsJournalText rows text ms
@@ -56,7 +56,7 @@ pub reopen_stops : {B : Type 0} (P : List Marked → B → Type 0) (rows : Table
 reopen_stops P rows text (Ok b) only = tt
 reopen_stops P rows text (Err e) only = λ is. only is.0 is.1
 
--- over the archive that the texts are
+-- why a run stops over the archive that the texts are
 pub opened_stops : (x : Texts) (c : Contents) (rows : Table) (e : RunFault)
     → ((d : Contents) → IsArchiveOf (opening_texts x) d → c ≡ d) → AreRowsOf c x.state rows
     → (IsJournalIfGiven rows x.journal → e ≡ NoMemory) → AreReadable x → Stops x e
@@ -80,11 +80,11 @@ stops_run x NotText h = absurd h
 stops_run x Write h = absurd h
 stops_run x NoMemory h = tt
 
--- the reader had more than a script may have ..
+-- the reader had more than a script may have
 abbrev pub IsLong : Option (List ℕ) → Type 0
 IsLong known = IfSome known (λ all. script_limit < length all)
 
--- .. or no text
+-- the reader had no text, within the limit
 abbrev pub IsNoText : Option (List ℕ) → Type 0
 IsNoText known = IfSome known (λ all. (length all ≤ script_limit) × ¬ IsUtf8 all)
 

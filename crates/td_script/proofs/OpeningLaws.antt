@@ -28,7 +28,7 @@ use Rattle.td_script.specs.Telling.{Telling}
 
 -- ---- 1. faults
 
--- what is so of each fault of a text is so of an end by one
+-- what holds of each fault of a text holds of a run that stops by one
 pub of_each : (P Q : FormFault → Type 0) → ((i : FormFault) → P i → Q i) → (e : RunFault)
     → OfInput P e → OfInput Q e
 of_each P Q each (Input i) h = each i h
@@ -55,7 +55,7 @@ pub opened_are : (c : Contents) (state : Option (List ℕ)) (rows : Table) → A
 opened_are c None rows opened is = opened
 opened_are c (Some text) rows opened is = absurd is
 
--- ---- 3. what is told
+-- ---- 3. what is answered
 
 pub text_given : (given : Option (List ℕ)) (t : GivenTracker) → IsGivenTracker given (Some t)
     → given ≡ Some t.text.now
@@ -75,11 +75,11 @@ stock-opened s k is =
     ap stock_of is ∙ ap (λ (l : List Supplied).
     record { table = k.table; sources = k.sources; offers = l }) (offers-fresh k.offers)
 
--- before the first arrival
+-- a supply before the first arrival is what its own stock opens
 pub fresh_supply : (s : SupplyView) (k : Stock) → s ≡ opened_stock k → s ≡ opened_stock (stock_of s)
 fresh_supply s k is = is ∙ ap opened_stock (sym (stock-opened s k is))
 
--- nothing is told over what the texts say
+-- a journal that is refused over what the texts say is a refused text
 untold : (x : Texts) (c : Contents) (rows : Table) → IsArchiveOf x c → AreRowsOf c x.state rows
     → IsTrackerIfGiven x.tracker → (e : FormFault) → IsJournalRefused rows x.journal e
     → IsRefused x e
@@ -90,7 +90,7 @@ untold x c rows archive are tracker (fault.NoSuchRow number) h = absurd h
 untold x c rows archive are tracker (fault.Tracker e) h = absurd h
 untold x c rows archive are tracker (fault.Journal e) h = (c, archive, (rows, are, tracker, h))
 
--- over what the texts say
+-- the answers from these rows are answers over what the texts say
 pub tells_from : (May : Telling) (x : Texts) (c : Contents) (report : Option (Table → List ℕ))
     (rows : Table) (text : List ℕ) (r : Result ToldText RunFault)
     → IfOk r (IsToldFrom May

@@ -1,4 +1,4 @@
--- How a run ends by what was read and told.
+-- How a run ends by what was read and answered.
 use Rattle.std.proofs.Common.{◌≡◌, ◌≤◌, ℕ, List, length, Option, Some, None, Result, Ok, Err, IfOk}
 use Rattle.std.proofs.Common.{IfErr, String, ap, refl, string_bytes, sym, subst}
 use Rattle.std.specs.Io.KnownBytes.{Keeps}
@@ -25,7 +25,7 @@ pub all_read : (known : Option (List ℕ)) (t : List ℕ) → IfSome known (λ a
 all_read None t h = tt
 all_read (Some all) t h = sym h
 
--- something was told of what was read
+-- a script that was read was answered
 pub plays : (May : Telling) (x : Texts) (known : Option (List ℕ))
     (read : Result (String Global) TextFault) (r : Result ToldText RunFault) (told : ToldText)
     (So : List ℕ → ℕ → Type 0) → r ≡ Ok told
@@ -67,7 +67,7 @@ says_refused May x known old NotText h = absurd h
 says_refused May x known old Write h = absurd h
 says_refused May x known old NoMemory h = kept old
 
--- no text is, and no script was read, for this
+-- no text is refused, and no script was read, for this
 says_fine : (May : Telling) (x : Texts) (known old : Option (List ℕ)) (f : TextFault)
     → AreFine x → (f ≡ text.TooLong → IsLong known) → (f ≡ text.NotText → IsNoText known)
     → SaysBy May x known old old (Err (of_reading f))

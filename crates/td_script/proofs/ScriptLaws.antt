@@ -1,4 +1,4 @@
--- What is told of the lines so far.
+-- The answers to the lines so far.
 use Rattle.std.proofs.Common.{◌≡◌, ℕ, ◌+◌, ◌≤◌, ◌<◌, ◌^◌, ◌-◌, List, [], ◌∷◌, length, Option, Some}
 use Rattle.std.proofs.Common.{None, fold, Bor, refl, sym, ap, subst, ◌∙◌, arith, ◌++◌, append_assoc}
 use Rattle.std.proofs.Common.{inl, inr}
@@ -23,17 +23,17 @@ use Rattle.td_script.specs.Script.{IsAnsweredUpTo}
 abbrev pub setting_of : Stock → List (List ℕ) → Option (Table → List ℕ) → Setting
 setting_of stock suites report = record { stock = stock; suites = suites; report = report }
 
--- the history behind the first lines
+-- the history after the first lines
 abbrev behind : Setting → History → List (List ℕ) → History
 behind s h lines = (fold (with_line s) (begun h) lines).after
 
--- one line more is answered from the history behind those before it
+-- one line more is answered from the history after those before it
 behind-next : (s : Setting) (h : History) (lines : List (List ℕ)) (line : List ℕ)
     → behind s h (lines ++ line ∷ []) ≡ (answer s (behind s h lines) line).after
 behind-next s h lines line =
     ap (λ (t : Told). t.after) (fold-append (with_line s) (begun h) lines (line ∷ []))
 
--- what is told so far, with the answers to what is left, is the whole
+-- the answers so far, with those to the lines that are left, are those to the whole script
 pub record IsSoFar (suites : List (List ℕ)) (report : Option (Table → List ℕ)) (all : List ℕ)
     (first now : BookModel) (told : ToldText) (rest : Option (Bor (List ℕ))) : Type 0 where
   pub is : fold (with_line (setting_of first.fixed.stock suites report)) (told_of told now.history)
@@ -113,7 +113,7 @@ up_to_here suites report all first now told rest h = record {
   fixed = h.fixed;
 }
 
--- and so may be the line after them, which isn't told
+-- the lines so far are answered, and maybe the next one, though its answer isn't in the text
 pub up_to_next : (suites : List (List ℕ)) (report : Option (Table → List ℕ)) (all line : List ℕ)
     (first now next : BookModel) (told : ToldText) (rest : Bor (List ℕ))
     (more : Option (Bor (List ℕ))) → IsSoFar suites report all first now told (Some rest)
@@ -164,7 +164,7 @@ lent_still Fits board reports first now lent fixed opening = record {
       lent.fits);
 }
 
--- what is told of a whole script answers it
+-- what `tell` has of a whole script answers it
 pub told_answered : (s : Setting) (lines : List ℕ) (old new : BookModel) (told : ToldText)
     → IsTold s lines old new told
     → IsAnswered s old.history lines (string_bytes told.text) told.refused

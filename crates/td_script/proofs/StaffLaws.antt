@@ -1,4 +1,4 @@
--- What a clerk alone tells of what is asked.
+-- What a clerk without builders answers to what is asked.
 use Rattle.std.proofs.Common.{◌≡◌, ℕ, List, [], ◌∷◌, Option, Result, Ok, Err, IfOk, IfErr, sym}
 use Rattle.std.proofs.Common.{ap, subst, ◌∙◌}
 use Rattle.std.specs.Prelude.{string_bytes}
@@ -39,7 +39,7 @@ begun_lent asked board table builders (Ok book) same none begun fit = record {
 }
 begun_lent asked board table builders (Err e) same none begun fit = tt
 
--- from a book that begins so, or none
+-- the answers from a book that begins so, or why there is no book
 pub told_begun : (asked : Asked) (table : TableId) (builders : ℕ)
     (begun : Result BookModel ReadError) (r : Result Told ReadError)
     → IfOk begun (IsBegunBy (journal_asked asked) asked.rows table (supply_of asked.archive.now)
@@ -79,7 +79,7 @@ journal_untold rows given (journal.BadLine n) h = h
 journal_untold rows given (journal.Unlawful n) h = h
 journal_untold rows given journal.NoMemory h = tt
 
--- what may be told of what was asked, or why the run stops
+-- what may be answered to what was asked, or why the run stops
 pub record IsRunOf (May : Telling) (asked : Asked) (r : Result Told RunFault) : Type 0 where
   pub told : IfOk r
       (IsToldFrom May (setting_asked asked) (journal_asked asked) asked.rows asked.script.now)

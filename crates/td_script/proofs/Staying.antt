@@ -29,7 +29,7 @@ use Rattle.td_script.specs.Replies.{Reply, Setting, answer, arrives, asks, ended
 use Rattle.td_script.specs.Replies.{refuses, replies, reports, says, shows_entry, shows_row}
 use Rattle.td_script.specs.Replies.{skip_line, skipped, state_refused, sweeps, taken, types, undoes}
 
--- its history opens with the rows with which this one does
+-- a reply's history opens with the rows with which this history does
 abbrev Opens : History → Reply → Type 0
 Opens h r = r.after.opening ≡ h.opening
 

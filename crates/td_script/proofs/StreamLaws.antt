@@ -1,4 +1,4 @@
--- A run stops for a stream only where that may fail.
+-- A run stops for a stream only if that may fail.
 use Rattle.std.proofs.Common.{◌≡◌, Bool, true, Result, Ok, Err, IfOk, IfErr, String}
 use Rattle.std.proofs.Common.{ap, refl, string_bytes, subst}
 use Rattle.std.specs.Prelude.{IsErrOf}
@@ -24,7 +24,7 @@ no_failed_write text.TooLong is = cc
 no_failed_write text.NotText is = cc
 no_failed_write text.NoMemory is = cc
 
--- where nothing is told, for a script that can't be read, a read has failed
+-- if there is no answer because the script can't be read, a read has failed
 pub unread_due : (May : Telling) (x : Texts) (read : Result (String Global) TextFault)
     (r : Result ToldText RunFault) (may : Bool)
     → IfOk read (λ t. TellsOrRefuses May x (string_bytes t) r) → IfErr read (λ f. IsUnread x f r)
@@ -36,7 +36,7 @@ unread_due May x (Err f) r may says unread due is =
     let h = subst (IsUnread x f) is unread in
     due (ap (λ (g : TextFault). Err g) (failed_read f h.1))
 
--- nothing is told for a failed write
+-- before the answers are written, no write has failed
 pub never_unwritten : (May : Telling) (x : Texts) (read : Result (String Global) TextFault)
     (r : Result ToldText RunFault) → IfOk read (λ t. TellsOrRefuses May x (string_bytes t) r)
     → IfErr read (λ f. IsUnread x f r) → r ≡ Err Write → ⊥

@@ -61,7 +61,7 @@ readable_bare x suite r = (
   record { rows = r.2.rows; are_rows = r.2.are_rows; tracker = r.2.tracker; journal = tt },
 )
 
--- what is readable with it is so without it
+-- texts that are readable with a journal are readable without it
 pub readable_without : (x : Texts) → AreReadable x → AreReadable (without_journal x)
 readable_without x r = readable_bare x x.suite r
 

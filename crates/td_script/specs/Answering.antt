@@ -11,8 +11,8 @@ pub record Answers (r : Reply) (old new : BookModel) (before now : List ℕ)
   pub refusal : refused ≡ r.refused
   pub fixed : new.fixed ≡ old.fixed
 
--- the book's history is as it was, or as the reply has it, and nothing else changes: so it is too
--- where memory ran out, before the book had done what the line says or behind that
+-- the book's history is as it was, or as the reply has it, and nothing else changes; that holds too
+-- if memory ran out, before the book had done what the line says or after it
 pub record IsLeftBy (r : Reply) (old new : BookModel) : Type 0 where
   pub history : (new.history ≡ old.history) ⊎ (new.history ≡ r.after)
   pub fixed : new.fixed ≡ old.fixed

@@ -19,19 +19,19 @@ use Rattle.td_script.specs.declared.told.Told.{Told}
 abbrev pub journal_asked : Asked → Option (List ℕ)
 journal_asked asked = option_map (λ s. s.now) asked.journal
 
--- by what lines are answered
+-- the setting in which the lines are answered
 abbrev pub setting_asked : Asked → Setting
 setting_asked asked =
     setting_lent report_by (supply_of asked.archive.now) (asked.suite ∷ []) asked.reports
 
--- what a run asks: no row is being built, reports come of a tracker over an archive, and the lines
--- of the script can be counted
+-- what a run asks: no row is being built, reports come of a tracker over an archive, and the
+-- script's lines can be counted
 pub record IsFit (asked : Asked) : Type 0 where
   pub idle : NoneBuilt asked.rows
   pub made : IfSome asked.reports (λ r. IsMade r.now)
   pub small : length asked.script.now < 2 ^ 63 - 1
 
--- this may be told of what was asked. Else the journal is refused, or memory runs out
+-- this may be answered to what was asked; else the journal is refused, or memory runs out
 pub record IsToldOf (May : Telling) (asked : Asked) (result : Result Told ReadError) : Type 0 where
   pub told : IfOk result
       (IsToldFrom May (setting_asked asked) (journal_asked asked) asked.rows asked.script.now)
@@ -39,7 +39,7 @@ pub record IsToldOf (May : Telling) (asked : Asked) (result : Result Told ReadEr
   pub only : IfErr result (λ fault.
       IsJournalIfGiven asked.rows (journal_asked asked) → fault ≡ NoMemory)
 
--- all that a run asks may be asked of those who answer, and whatever they answer may be told
+-- those who answer may be asked all that a run asks, and each of their answers may be given
 pub record CanAnswer (May : Telling) (Allows : Asked → Type 0)
     (Answers : Asked → Result Told ReadError → Type 0) : Type 0 where
   pub asked : (asked : Asked) → IsFit asked → Allows asked

@@ -8,7 +8,7 @@ use Rattle.td_script.specs.Openings.{IsBegun}
 use Rattle.td_script.specs.Replies.{Setting}
 use Rattle.td_script.specs.Script.{Told, script}
 
--- what is told of two scripts, the second behind the first
+-- the answers to two scripts, the second after the first
 abbrev pub joined : Told → Told → Told
 joined t u = record { text = t.text ++ u.text; after = u.after; refused = t.refused + u.refused }
 
@@ -19,8 +19,8 @@ pub record IsLeftAs (h : History) (text : List ℕ) : Type 0 where
   pub is_text : IsJournalText h.opening text h.journal
   pub none_left : returns_of (rows_of h) ≡ []
 
--- from the journal that the first part leaves, the second one is answered as behind it: both tell
--- what the whole script does
+-- from the journal that the first part leaves, the second one is answered as after it: the answers
+-- to both are those to the whole script
 abbrev pub CutScriptsTellTheSame : Type 0
 CutScriptsTellTheSame =
     (s : Setting) (h g : History) (front back text : List ℕ)

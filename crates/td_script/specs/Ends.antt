@@ -20,19 +20,19 @@ use Rattle.td_script.specs.Telling.{Telling}
 abbrev pub IsScriptText : List ℕ → Type 0
 IsScriptText text = (length text ≤ script_limit) × IsUtf8 text
 
--- all that the reader had
+-- a script is all that the reader had
 pub record IsScript (known : Option (List ℕ)) (text : List ℕ) : Type 0 where
   pub whole : IfSome known (λ all. all ≡ text)
   pub fits : IsScriptText text
 
--- a script is answered from this history with this text and so many refusals: as a clerk alone
--- answers it
+-- a script is answered from this history with this text and this many refusals: as a clerk without
+-- builders answers it
 pub record IsAnswered (s : Setting) (h : History) (lines text : List ℕ) (refused : ℕ) : Type 0 where
   pub text_is : text ≡ (script s h lines).text
   pub refused_is : refused ≡ (script s h lines).refused
 
--- what was read is a script, and this is so of a text and a number of refusals that may be told of
--- it, so, over what the texts say
+-- what was read is a script, and `So` holds of a text and a number of refusals that may answer it
+-- over what the texts say
 abbrev pub Plays : Telling → Texts → Option (List ℕ) → (List ℕ → ℕ → Type 0) → Type 0
 Plays May x known So =
     (s : Setting) × (h : History) × IsSet x s h
@@ -43,8 +43,8 @@ Plays May x known So =
 abbrev pub AreFine : Texts → Type 0
 AreFine x = (s : Setting) × (h : History) × IsSet x s h
 
--- what an end says where this may be told of a script: the whole text is written and its refusals
--- are counted, or a front of it where the writer failed; at every other fault nothing is written
+-- what an end says if a script may be answered so: the whole text is written and its refusals are
+-- counted, or a front of it if the writer failed; at every other fault nothing is written
 abbrev pub SaysBy : Telling → Texts → Option (List ℕ) → Option (List ℕ) → Option (List ℕ)
     → Result ScriptEnd RunFault → Type 0
 SaysBy May x known old new (Ok end) =
@@ -59,12 +59,12 @@ SaysBy May x known old new (Err Write) =
     Plays May x known (λ text refused. AppendsPrefix old new text)
 SaysBy May x known old new (Err NoMemory) = Keeps old new
 
--- what an end says if a clerk alone answers the script
+-- what an end says if a clerk without builders answers the script
 abbrev pub Says : Texts → Option (List ℕ) → Option (List ℕ) → Option (List ℕ)
     → Result ScriptEnd RunFault → Type 0
 Says x known old new r = SaysBy IsAnswered x known old new r
 
--- why a run over readable texts may stop, where the reader has a script: a stream or memory fails,
+-- why a run over readable texts may stop, if the reader has a script: a stream or memory fails,
 -- or `regex` refuses a pattern
 abbrev pub MayStop : Texts → RunFault → Type 0
 MayStop x (Input (fault.Table e)) = ⊥

@@ -1,6 +1,6 @@
 -- How much is read, in bytes. This project's own.
 use Rattle.std.specs.Prelude.{ℕ}
 
--- of a script, 1 MiB
+-- the most bytes of a script, 1 MiB
 abbrev pub script_limit : ℕ
 script_limit = 1048576

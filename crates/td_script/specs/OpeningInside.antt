@@ -28,7 +28,7 @@ use Rattle.td_script.specs.Telling.{Telling}
 
 -- ---- 1. faults
 
--- why a run stops where no script is read
+-- why a run stops if no script is read
 abbrev pub of_reading : TextFault → RunFault
 of_reading text.CannotRead = Read
 of_reading text.TooLong = TooLong
@@ -61,7 +61,7 @@ bare_texts x suite = record {
 abbrev pub opening_texts : Texts → Texts
 opening_texts x = bare_texts x []
 
--- a text has such a fault, or memory runs out
+-- a text has a fault of this kind, or memory runs out
 abbrev pub OfInput : (FormFault → Type 0) → RunFault → Type 0
 OfInput Is (Input e) = Is e
 OfInput Is NoMemory = Unit {0}
@@ -71,7 +71,7 @@ OfInput Is e = ⊥
 abbrev pub IsRefusedBy : Texts → RunFault → Type 0
 IsRefusedBy x e = OfInput (IsRefused x) e
 
--- ---- 2. what is told
+-- ---- 2. what is answered
 
 -- the tracker that is given
 abbrev pub IsTrackerOf : Texts → Tracking → Type 0
@@ -85,7 +85,7 @@ pub record IsBegunBy (given : Option (List ℕ)) (rows : Table) (table : TableId
   pub stock_is : book.fixed.stock ≡ stock
   pub builders_are : book.fixed.builders ≡ builders
 
--- a clerk alone answers these lines from a book, or memory runs out
+-- a clerk without builders answers these lines from a book, or memory runs out
 pub record IsToldFor (book : BookModel) (s : Setting) (lines : List ℕ)
     (result : Result ToldText ReadError) : Type 0 where
   pub told : IfOk result (λ told.
@@ -102,22 +102,22 @@ abbrev pub IsJournalRefused : Table → Option (List ℕ) → FormFault → Type
 IsJournalRefused rows given (fault.Journal e) = IsNoJournal rows given e
 IsJournalRefused rows given e = ⊥
 
--- nothing is told from these rows: their journal is refused, or memory runs out
+-- nothing is answered from these rows: their journal is refused, or memory runs out
 abbrev pub IsUntold : Table → Option (List ℕ) → RunFault → Type 0
 IsUntold rows given e = OfInput (IsJournalRefused rows given) e
 
--- this may be told of a script from these rows, or from the journal over them that is gone on with
+-- a script may be answered so from these rows, or from the journal over them that is gone on with
 abbrev pub IsToldFrom : Telling → Setting → Option (List ℕ) → Table → List ℕ → ToldText → Type 0
 IsToldFrom May s given rows lines told =
     (h : History) × IsBegun given rows h × May s h lines (string_bytes told.text) told.refused
 
--- this may be told of a script over what the texts say
+-- a script may be answered so over what the texts say
 abbrev pub Tells : Telling → Texts → List ℕ → ToldText → Type 0
 Tells May x lines told =
     (s : Setting) × (h : History) × IsSet x s h
     × May s h lines (string_bytes told.text) told.refused
 
--- what is told of a script over what the texts say, or the refusal of a text
+-- the answers to a script over what the texts say, or the refusal of a text
 abbrev pub TellsOrRefuses : Telling → Texts → List ℕ → Result ToldText RunFault → Type 0
 TellsOrRefuses May x lines result = MatchResult result (Tells May x lines) (IsRefusedBy x)
 

@@ -59,14 +59,14 @@ pub record AreReportsOf (c : Contents) (text : List ℕ) (report : Table → Lis
   pub levels : AreLevels c tracking level depth
   pub same : (rows : Table) → report rows ≡ report_with c tracking level depth rows
 
--- there are reports where there is a tracker
+-- there are reports if and only if there is a tracker
 abbrev pub AreReports : Contents → Option (List ℕ) → Option (Table → List ℕ) → Type 0
 AreReports c None None = Unit {0}
 AreReports c None (Some report) = ⊥
 AreReports c (Some text) None = ⊥
 AreReports c (Some text) (Some report) = AreReportsOf c text report
 
--- what stands over an archive: the offers of its index, the suite, the reports, and the history
+-- what there is over an archive: the offers of its index, the suite, the reports, and the history
 -- from which the script starts
 pub record IsSetOver (c : Contents) (x : Texts) (s : Setting) (h : History) : Type 0 where
   pub rows : Table

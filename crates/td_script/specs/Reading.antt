@@ -33,15 +33,15 @@ verb_at word =
 unfoldable pub spaced_key_at : List ℕ → Option Key
 spaced_key_at text = key_apart 32 text
 
--- nothing may follow
+-- the request, if nothing follows its word
 abbrev pub alone : Request → List ℕ → Option Request
 alone r rest = if length rest == 0 then Some r else None
 
--- the number behind a space ..
+-- the number after a space
 abbrev pub number_behind : List ℕ → Option ℕ
 number_behind rest = strip (codes " ") rest >>= number_at (2 ^ 64 - 1)
 
--- .. or the key
+-- the key after a space
 abbrev pub key_behind : List ℕ → Option Key
 key_behind rest = strip (codes " ") rest >>= spaced_key_at
 
@@ -55,15 +55,15 @@ by_verb verb.Entry rest = number_behind rest >>= λ n. Some (Entry n)
 by_verb verb.Report rest = alone Report rest
 by_verb verb.Journal rest = alone Journal rest
 
--- the request whose line it is
+-- the request whose line this is
 unfoldable pub request_at : List ℕ → Option Request
 request_at line = verb_at (part 32 line).0 >>= λ v. by_verb v (part 32 line).1
 
--- a line is read as a request exactly where it is the request's
+-- a line is read as a request if and only if it is the request's
 abbrev pub RequestsAreExact : Type 0
 RequestsAreExact = Exact request_at request_line RequestFits
 
--- nothing, or a comment
+-- a line is empty, or a comment
 abbrev pub is_skipped : List ℕ → Bool
 is_skipped [] = true
 is_skipped (b ∷ line) = b == 35
@@ -86,7 +86,7 @@ is_word_byte b = not (is_space b)
 abbrev pub first_word : List ℕ → List ℕ
 first_word line = run is_word_byte (behind is_space line)
 
--- a line that is no request's: a faulty one where its first word is a verb
+-- a line that is no request's: a faulty one if its first word is a verb
 abbrev pub unasked : List ℕ → Said
 unasked line = if is_verb (first_word line) then Bad else Typed
 
@@ -102,12 +102,12 @@ HasKey (Arrive k) = Unit {0}
 HasKey (Row k) = Unit {0}
 HasKey r = ⊥
 
--- a line that is such a request
+-- a line that is a request with a key
 abbrev pub AsksByKey : Said → Type 0
 AsksByKey (Asked r) = HasKey r
 AsksByKey said = ⊥
 
--- a line is said to be a request exactly where it is that request's
+-- a line is read as a request if and only if it is that request's
 abbrev pub LinesAreSaid : Type 0
 LinesAreSaid =
     (line : List ℕ) (r : Request)

@@ -41,13 +41,13 @@ use Rattle.td_script.specs.declared.line.Said.TheVariants.{Skipped, Asked, Bad, 
 use Rattle.td_script.specs.Reading.{said_at}
 
 -- what doesn't change over a script: what the index offers, the suites that a command may name, and
--- the report on rows, where there is a tracker
+-- the report on rows, if there is a tracker
 pub record Setting : Type 0 where
   pub stock : Stock
   pub suites : List (List ℕ)
   pub report : Option (Table → List ℕ)
 
--- an answer: its text, the history behind it, and whether the line is refused
+-- an answer: its text, the history after it, and whether the line is refused
 pub record Reply : Type 0 where
   pub text : List ℕ
   pub after : History
@@ -59,7 +59,7 @@ ended line = line ++ 10 ∷ []
 
 -- ---- 1. answers in general
 
--- nothing is changed, and this is said
+-- nothing is changed, and this text is the answer
 abbrev pub says : History → List ℕ → Reply
 says h text = record { text = text; after = h; refused = false }
 
@@ -75,7 +75,7 @@ refuses h name behind = record { text = refusal_line name ++ behind; after = h; 
 abbrev pub entry_made : ℕ → List Key → List ℕ
 entry_made n keys = ended (codes "entry " ++ (decimal n ++ (codes " takes" ++ spaced_keys keys)))
 
--- the entry is made, and said with what follows it
+-- the entry is made, and the answer is its line with what follows it
 abbrev pub enters : History → Entry → List ℕ → Reply
 enters h e behind =
     record {
@@ -94,7 +94,7 @@ undo_name undos.AlreadyUndone = codes "AlreadyUndone"
 undo_name undos.NoMemory = codes "NoMemory"
 undo_name (undos.Blocked m) = codes "Blocked " ++ decimal m
 
--- entry n is undone, where nothing speaks against it
+-- entry n is undone, if nothing speaks against it
 abbrev pub undoes : History → ℕ → Option UndoRefusal → Reply
 undoes h n (Some r) = refuses h (undo_name r) []
 undoes h n None =
@@ -117,7 +117,7 @@ arrives h k (Some row) =
     if applies kinds.Arrive row then enters h (record { kind = kinds.Arrive; keys = k ∷ [] }) []
     else refuses h (state_refused row) []
 
--- the rows that are freed
+-- the answer to a sweep that frees these rows
 abbrev pub sweeps : History → List Key → Reply
 sweeps h [] = says h (ended (codes "nothing to sweep"))
 sweeps h (k ∷ keys) = enters h (record { kind = kinds.Sweep; keys = k ∷ keys }) []
@@ -162,7 +162,7 @@ is_matched s h c = is_matched_at c (supply_now s h) (rows_of h)
 abbrev pub taken : Stock → History → CommandParts → List Key
 taken s h c = takes (rows_of h) (kind_of c) (filter (is_matched s h c) (named_in c (rows_of h)))
 
--- the others
+-- the rows that a command names and doesn't take
 abbrev pub skipped : Stock → History → CommandParts → List Skip
 skipped s h c = skips_of (is_matched s h c) (kind_of c) (named_in c (rows_of h)) (rows_of h)
 
@@ -171,7 +171,7 @@ abbrev pub enters_on : History → Kind → List Key → List ℕ → Reply
 enters_on h kind [] behind = refuses h (codes "NothingApplies") behind
 enters_on h kind (k ∷ keys) behind = enters h (record { kind = kind; keys = k ∷ keys }) behind
 
--- the command is entered, and the rows told that it names and doesn't take
+-- the command is entered, and the rows that it names and doesn't take are listed
 abbrev pub commands : Stock → History → CommandParts → Reply
 commands s h c = enters_on h (kind_of c) (taken s h c) (flat_map skip_line (skipped s h c))
 
@@ -187,7 +187,7 @@ types s h (Err fault) = refuses h (fault_name fault) []
 
 -- ---- 6. a line
 
--- what is asked for
+-- the answer to a request
 abbrev pub asks : Setting → History → Request → Reply
 asks s h (Undo n) = undoes h n (undo_stop h.journal n)
 asks s h (Arrive k) = arrives h k (row_of (rows_of h) k)

@@ -25,14 +25,14 @@ IsEntryPut ms n behind before now refused =
     (m : Marked) → entry_at ms n ≡ Some m
     → IsPut (entry_made n m.entry.keys ++ behind) false before now refused
 
--- what is written of an undo; of one without memory nothing is
+-- what is written of an undo; nothing if memory ran out
 abbrev pub IsUndoPut : ℕ → Result (Unit {0}) UndoRefusal → List ℕ → List ℕ → Bool → Type 0
 IsUndoPut n (Ok u) before now refused =
     IsPut (ended (codes "undone " ++ decimal n)) false before now refused
 IsUndoPut n (Err undos.NoMemory) before now refused = ⊥
 IsUndoPut n (Err r) before now refused = IsPut (refusal_line (undo_name r)) true before now refused
 
--- of an arrival that is refused
+-- what is written of an arrival that is refused
 abbrev pub IsArrivalRefused : ArriveRefusal → List ℕ → List ℕ → Bool → Type 0
 IsArrivalRefused arrivals.NoSuchRow before now refused =
     IsPut (refusal_line (codes "NoSuchRow")) true before now refused
@@ -40,25 +40,25 @@ IsArrivalRefused (arrivals.DoesNotApply s) before now refused =
     IsPut (refusal_line (codes "DoesNotApply " ++ state_word s)) true before now refused
 IsArrivalRefused arrivals.NoMemory before now refused = ⊥
 
--- of an arrival, where the journal is this afterwards
+-- what is written of an arrival, if the journal is this afterwards
 abbrev pub IsArrivalPut : List Marked → Result ℕ ArriveRefusal → List ℕ → List ℕ → Bool → Type 0
 IsArrivalPut ms (Ok n) before now refused = IsEntryPut ms n [] before now refused
 IsArrivalPut ms (Err r) before now refused = IsArrivalRefused r before now refused
 
--- of a sweep
+-- what is written of a sweep
 abbrev pub IsSweepPut : List Marked → Option ℕ → List ℕ → List ℕ → Bool → Type 0
 IsSweepPut ms (Some n) before now refused = IsEntryPut ms n [] before now refused
 IsSweepPut ms None before now refused =
     IsPut (ended (codes "nothing to sweep")) false before now refused
 
--- of a command that is refused
+-- what is written of a command that is refused
 abbrev pub IsCommandRefused : CommandRefusal → List ℕ → List ℕ → Bool → Type 0
 IsCommandRefused (commands.NothingApplies skips) before now refused =
     IsPut (refusal_line (codes "NothingApplies") ++ flat_map skip_line skips) true before now
     refused
 IsCommandRefused commands.NoMemory before now refused = ⊥
 
--- of a command
+-- what is written of a command
 abbrev pub IsCommandPut : List Marked → Result Taken CommandRefusal → List ℕ → List ℕ → Bool
     → Type 0
 IsCommandPut ms (Ok t) before now refused =

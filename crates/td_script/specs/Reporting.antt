@@ -11,12 +11,12 @@ use Rattle.td_report.specs.Transition.{affected_rows}
 use Rattle.td_report.specs.TransitionView.{IsMade, contents_of, depth_of, level_of, tracking_of}
 use Rattle.td_report.specs.declared.transition.Transition.{Transition}
 
--- the text of the report of these rows, where sources stand at these levels
+-- the text of the report of these rows, if sources are at these levels
 abbrev pub report_with : Contents → Tracking → (List ℕ → Option Level) → ℕ → Table → List ℕ
 report_with a t level depth rows =
     text_of (report_lines t.title depth (affected_rows a t level rows))
 
--- the same, of a transition
+-- the text of a transition's report of these rows
 abbrev pub report_by : Transition → Table → List ℕ
 report_by x rows = report_with (contents_of x) (tracking_of x) (level_of x) (depth_of x) rows
 

@@ -7,7 +7,7 @@ use Rattle.td_book.specs.Desk.{BookModel}
 use Rattle.td_script.specs.declared.told.Told.{Told as ToldText}
 use Rattle.td_script.specs.Replies.{Setting, Reply, answer}
 
--- what is told of the lines so far: the text, the history behind them, and how many were refused
+-- the answers to the lines so far: the text, the history after them, and how many were refused
 pub record Told : Type 0 where
   pub text : List ℕ
   pub after : History
@@ -26,34 +26,34 @@ added t r =
 abbrev pub with_line : Setting → Told → List ℕ → Told
 with_line s t line = added t (answer s t.after line)
 
--- nothing yet
+-- no line is answered yet
 abbrev pub begun : History → Told
 begun h = record { text = []; after = h; refused = zero }
 
--- all lines of a text, from a history
+-- the answers to all lines of a text, from a history
 abbrev pub script : Setting → History → List ℕ → Told
 script s h text = fold (with_line s) (begun h) (lines_of text)
 
 -- ---- as the code has it
 
--- what is told, with the history behind it
+-- the answers in the code's form, with the history after them
 abbrev pub told_of : ToldText → History → Told
 told_of t h = record { text = string_bytes t.text; after = h; refused = t.refused }
 
--- one line more is told
+-- one line more is answered
 pub record IsAdded (s : Setting) (line : List ℕ) (old new : BookModel)
     (before now : ToldText) : Type 0 where
   pub is : told_of now new.history ≡ with_line s (told_of before old.history) line
   pub fixed : new.fixed ≡ old.fixed
   pub counted : now.refused ≤ before.refused + 1
 
--- the text and the count are those of the script, and the book's history is the one behind it
+-- the text and the count are those of the script, and the book's history is the one after it
 pub record IsTold (s : Setting) (script_text : List ℕ) (old new : BookModel)
     (told : ToldText) : Type 0 where
   pub is : told_of told new.history ≡ script s old.history script_text
   pub fixed : new.fixed ≡ old.fixed
 
--- the book's history is the one behind the lines before some place in the text, and nothing else
+-- the book's history is the one after the lines before some place in the text, and nothing else
 -- changes
 pub record IsAnsweredUpTo (s : Setting) (script_text : List ℕ) (old new : BookModel) : Type 0 where
   pub front : List (List ℕ)

@@ -14,7 +14,7 @@ pub record IsLentTo {R : Type 0} (Fits : R → Table → Fixed → Type 0) (tabl
   pub alone : book.fixed.builders ≡ 0
   pub fits : IfSome reports (λ r. Fits r.now book.history.opening book.fixed)
 
--- these offers, with the suites and what tells the report, where it is there
+-- the setting of these offers, with the suites and what makes the report, if there is one
 abbrev pub setting_lent : {R : Type 0} → (R → Table → List ℕ) → Stock → List (Bor (List ℕ))
     → Option (Bor R) → Setting
 setting_lent text stock suites reports =

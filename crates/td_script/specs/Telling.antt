@@ -3,6 +3,6 @@ use Rattle.std.specs.Prelude.{ℕ, List}
 use Rattle.td_core.specs.History.{History}
 use Rattle.td_script.specs.Replies.{Setting}
 
--- whether, of these lines from a history, this text may be told and so many refusals
+-- whether these lines, from a history, may be answered with this text and this many refusals
 abbrev pub Telling : Type 1
 Telling = Setting → History → List ℕ → List ℕ → ℕ → Type 0

@@ -1,4 +1,4 @@
-//! The answers to requests. Where memory runs out nothing is appended, though the book may have
+//! The answers to requests. If memory runs out, nothing is appended, though the book may have
 //! done what was asked for.
 ghost use Rattle.std.specs.Prelude.{◌≡◌, false, IfOk, IfSome, OnErr, option_map};
 ghost use Rattle.std.specs.String.{string_bytes};
@@ -71,7 +71,7 @@ pub fn sweep(book: &mut Book<'_>, board: &Board, out: &mut String) -> Result<boo
     put_sweep(out, book.journal(), swept)
 }
 
-/// Tells the row of a key.
+/// Shows the row of a key.
 pub fn show_row(book: &Book<'_>, key: &Key, out: &mut String) -> Result<bool, AllocError>
     ensures ok { IfOk result (Answers
         (shows_row book.now.history key.now (row_of (rows_of book.now.history) key.now)) book.now
@@ -84,7 +84,7 @@ pub fn show_row(book: &Book<'_>, key: &Key, out: &mut String) -> Result<bool, Al
     }
 }
 
-/// Tells an entry.
+/// Shows an entry.
 pub fn show_entry(book: &Book<'_>, n: EntryNo, out: &mut String) -> Result<bool, AllocError>
     ensures ok { IfOk result (Answers (shows_entry book.now.history n) book.now book.now
         (string_bytes out.old) (string_bytes out.new)) }
@@ -96,7 +96,7 @@ pub fn show_entry(book: &Book<'_>, n: EntryNo, out: &mut String) -> Result<bool,
     }
 }
 
-/// Tells the journal.
+/// Shows the journal.
 pub fn show_journal(book: &Book<'_>, out: &mut String) -> Result<bool, AllocError>
     ensures ok { IfOk result (Answers
         (says book.now.history (journal_text book.now.history.journal)) book.now book.now
@@ -123,7 +123,7 @@ fn put_report<R: Reports>(
     out.push_str(text.as_str()).and(Ok(false))
 }
 
-/// Tells the report of the rows, where there is a tracker.
+/// Shows the report of the rows, if there is a tracker.
 pub fn show_report<R: Reports>(
     alloc: Global,
     book: &Book<'_>,

@@ -11,7 +11,7 @@ use td_board::Board;
 use td_book::Book;
 use td_wbread::Command;
 
-/// Enters a command, and appends the answer. Answers whether it is refused. Where memory runs out
+/// Enters a command, and appends the answer. Answers whether it is refused. If memory runs out,
 /// nothing is appended, though the command may be entered.
 pub fn command(
     book: &mut Book<'_>,

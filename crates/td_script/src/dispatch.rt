@@ -72,8 +72,8 @@ fn type_in<R: Reports>(
     }
 }
 
-/// Answers a line from a book without builders. Answers whether it is refused. Where memory runs
-/// out nothing is appended, though the book may have done what the line says.
+/// Answers a line from a book without builders. Answers whether it is refused. If memory runs
+/// out, nothing is appended, though the book may have done what the line says.
 #[tactic(auto, using(crate::proofs::AnswerLaws::left_still))]
 pub fn answer<R: Reports>(
     book: &mut Book<'_>,

@@ -37,7 +37,7 @@ impl<'i> Files<'i> {
         }
     }
 
-    /// These texts, if no journal is gone on with.
+    /// These texts without the journal.
     pub fn without_journal(mut self) -> Files<'i>
         ensures { texts_lent result ≡ without_journal (texts_lent self.entry) }
     {

@@ -11,7 +11,7 @@ pub struct Inputs {
     pub packages: String,
     /// The Sources index.
     pub sources: String,
-    /// Rows that are put in the place of those with which the archive opens.
+    /// Rows to use instead of those with which the archive opens.
     pub state: Option<String>,
     pub tracker: Option<String>,
     /// The text of the journal that is gone on with.

@@ -1,9 +1,9 @@
-//! What is lent, beside a book, to those who answer lines.
+//! What is lent, together with a book, to those who answer lines.
 use crate::reports::Reports;
 use std::alloc::Global;
 use td_board::Board;
 
-/// By what the lines of a script are answered from a book without builders. That it is lent to the
+/// What it takes to answer a script's lines from a book without builders. That it is lent to the
 /// book, with reports that fit it, is no field: that speaks of the book, and what `fits` says is
 /// left to `Reports`. So each call asks for it, by `IsLentTo`.
 #[derive(Drop)]
@@ -13,6 +13,6 @@ pub struct Lent<'l, 's, 'r, R: Reports> {
     pub board: &'l Board,
     /// The suites that a command may name.
     pub suites: &'l [&'s str],
-    /// What makes reports, where there is a tracker.
+    /// What makes reports, if there is a tracker.
     pub reports: Option<&'r R>,
 }

@@ -1,4 +1,4 @@
-//! What is told of a script over the texts of files.
+//! The answers to a script over the texts of files.
 ghost use Rattle.std.specs.Prelude.{◌≡◌, ◌<◌, ◌^◌, ◌-◌, ◌∷◌, ℕ, [], List, None, Option, Some, IfOk};
 ghost use Rattle.std.specs.Prelude.{IfErr, IfSome, Ok, Err, length};
 ghost use Rattle.td_core.specs.Phases.{NoneBuilt};
@@ -28,7 +28,7 @@ use td_journal::ReadError;
 use td_report::Transition;
 use td_rows::Rows;
 
-// Why a run stops where its texts aren't opened for this.
+// Why a run stops if its texts aren't opened for this.
 fn fault_of(fault: OpenFault) -> RunFault
     ensures { result ≡ of_opening fault }
 {
@@ -38,7 +38,7 @@ fn fault_of(fault: OpenFault) -> RunFault
     }
 }
 
-// What was told, or the fault of the journal.
+// What was answered, or the fault of the journal.
 fn told_or_refused(told: Result<Told, ReadError>) -> Result<Told, RunFault>
     ensures told { IfOk told (λ t. result ≡ Ok t) }
     ensures refused { IfErr told (λ fault. result ≡ Err (of_journal fault)) }
@@ -95,7 +95,7 @@ pub struct Run<'r, S: Staff, F: Fn(Asked) -> Result<Told, ReadError>> {
 }
 
 impl<S: Staff, F: Fn(Asked) -> Result<Told, ReadError>> Run<'_, S, F> {
-    // What is told from these rows, or from the journal over them that is gone on with, over what
+    // The answers from these rows, or from the journal over them that is gone on with, over what
     // an archive offers.
     fn tell_from(
         &self,
@@ -128,7 +128,7 @@ impl<S: Staff, F: Fn(Asked) -> Result<Told, ReadError>> Run<'_, S, F> {
         told_or_refused((self.tell)(asked))
     }
 
-    // What is told from these rows with the reports of a tracker.
+    // The answers from these rows with the reports of a tracker.
     fn tell_tracked(
         &self,
         rt: &(impl Threads + Sync),
@@ -159,7 +159,7 @@ impl<S: Staff, F: Fn(Asked) -> Result<Told, ReadError>> Run<'_, S, F> {
         }
     }
 
-    // What is told from these rows without reports.
+    // The answers from these rows without reports.
     fn tell_untracked(&self, archive: &Archive<'_, '_>, rows: Rows) -> Result<Told, RunFault>
         requires answers { CanAnswer (S.tells self.now.staff.now) (F.pre self.now.tell.now)
             (F.post self.now.tell.now) }
@@ -176,7 +176,7 @@ impl<S: Staff, F: Fn(Asked) -> Result<Told, ReadError>> Run<'_, S, F> {
         self.tell_from(archive, rows, None)
     }
 
-    // What is told over what was opened of the texts.
+    // The answers over what was opened of the texts.
     fn tell_opened(
         &self,
         rt: &(impl Threads + Sync),
@@ -205,7 +205,7 @@ impl<S: Staff, F: Fn(Asked) -> Result<Told, ReadError>> Run<'_, S, F> {
         }
     }
 
-    /// What is told of the script. The texts of the files are judged first.
+    /// The answers to the script. The texts of the files are judged first.
     pub fn tell_all<R: Threads + Sync>(&self, rt: &R) -> Result<Told, RunFault>
         requires answers { CanAnswer (S.tells self.now.staff.now) (F.pre self.now.tell.now)
             (F.post self.now.tell.now) }
@@ -233,7 +233,7 @@ impl<S: Staff, F: Fn(Asked) -> Result<Told, ReadError>> Run<'_, S, F> {
     }
 }
 
-/// What is told of a script over the texts of inputs.
+/// The answers to a script over the texts of inputs.
 pub fn tell_over<S: Staff, F: Fn(Asked) -> Result<Told, ReadError>>(
     rt: &(impl Threads + Sync),
     alloc: Global,

@@ -1,5 +1,5 @@
 //! What is written of the answers of a book's calls. Each function says whether the line is
-//! refused. Where memory runs out, or had run out in the book's call, it appends nothing.
+//! refused. If memory runs out, or had run out in the book's call, it appends nothing.
 ghost use Rattle.std.specs.Prelude.{◌≡◌, IfOk, OnErr};
 ghost use Rattle.std.specs.String.{string_bytes};
 ghost use Rattle.td_script.specs.Replying.{IsArrivalPut, IsArrivalRefused, IsCommandPut};

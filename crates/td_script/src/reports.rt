@@ -14,8 +14,8 @@ pub trait Reports {
     /// The report of the rows, each line with its newline.
     ghost text: { Self → Table → List ℕ };
 
-    /// What has to hold of it, of the rows with which the history opens, and of what no call
-    /// changes of the book.
+    /// What has to hold of the reports, of the rows with which the history opens, and of what no
+    /// call changes of the book.
     ghost fits: { Self → Table → Fixed → Type 0 };
 
     fn report(&self, alloc: Global, book: &Book<'_>) -> Result<String, AllocError>

@@ -22,7 +22,7 @@ pub enum Verb {
     Journal,
 }
 
-/// What a script asks for beside commands.
+/// What a script asks for other than commands.
 #[derive(Drop)]
 pub enum Request {
     /// The entry is undone.
@@ -85,14 +85,14 @@ fn alone(request: Request, rest: &str) -> Option<Request>
     rest.is_empty().then_some(request)
 }
 
-// The number behind a space.
+// The number after a space.
 fn number_behind(rest: &str) -> Option<EntryNo>
     ensures { result ≡ number_behind_at rest.now }
 {
     number(strip(rest, " ")?, u64::MAX)
 }
 
-// The key behind a space, in memory of its own.
+// The key after a space, in memory of its own.
 fn key_behind(alloc: Global, rest: &str) -> Result<Option<Key>, AllocError>
     ensures { MatchResult result (λ key. key ≡ key_behind_at rest.now)
         (λ _. IsSome (key_behind_at rest.now)) }
@@ -119,7 +119,7 @@ fn read_by_verb(alloc: Global, verb: Verb, rest: &str) -> Result<Option<Request>
     }
 }
 
-/// The request whose line it is. Memory is taken for a key alone.
+/// The request whose line this is. Memory is taken only for a key.
 #[tactic(auto, unfolding(crate::specs::Reading::request_at))]
 pub fn read_request(alloc: Global, line: &str) -> Result<Option<Request>, AllocError>
     ensures { MatchResult result (λ request. request ≡ request_at line.now)
@@ -132,7 +132,7 @@ pub fn read_request(alloc: Global, line: &str) -> Result<Option<Request>, AllocE
     }
 }
 
-/// A line is read as a request exactly where it is the line of that request.
+/// A line is read as a request if and only if it is the line of that request.
 pub fn request_lines_are_exact()
     ensures { RequestsAreExact }
 {}

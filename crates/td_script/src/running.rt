@@ -59,7 +59,7 @@ fn fault_of_text(fault: TextFault) -> RunFault
     }
 }
 
-// Whether something would be told of an empty script.
+// Whether an empty script would be answered.
 fn judged(told: Result<Told, RunFault>) -> Result<(), RunFault>
     ensures fine { IfOk told (λ _. result ≡ Ok tt) }
     ensures refused { IfErr told (λ fault. result ≡ Err fault) }
@@ -97,8 +97,8 @@ fn judge(rt: &(impl Threads + Sync), alloc: Global, inputs: &Inputs) -> Result<(
     judge_lent(rt, alloc, Files::of(inputs))
 }
 
-/// Judges the texts that come before the journal: where lines of outcomes are faulty, they are told
-/// of behind these and before it.
+/// Judges the texts that come before the journal. A faulty line of outcomes comes after these and
+/// before the journal.
 pub fn judge_files(
     rt: &(impl Threads + Sync),
     alloc: Global,
@@ -113,7 +113,7 @@ pub fn judge_files(
     judge_lent(rt, alloc, Files::of(inputs).without_journal())
 }
 
-// What is told where no script was read, for this: the fault of the files, if they have one.
+// The answer if no script was read, for this: the fault of the files, if they have one.
 fn unread(judged: Result<(), RunFault>, why: TextFault) -> Result<Told, RunFault>
     ensures fine { IfOk judged (λ _. result ≡ Err (of_reading why)) }
     ensures refused { IfErr judged (λ fault. result ≡ Err fault) }
@@ -124,7 +124,7 @@ fn unread(judged: Result<(), RunFault>, why: TextFault) -> Result<Told, RunFault
     }
 }
 
-// What is told of what was read. The files are judged before the script.
+// The answers to what was read. The files are judged before the script.
 fn tell_read<S: Staff, F: Fn(Asked) -> Result<Told, ReadError>>(
     rt: &(impl Threads + Sync),
     alloc: Global,

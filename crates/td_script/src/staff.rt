@@ -20,7 +20,7 @@ use td_journal::ReadError;
 use td_report::Transition;
 use td_rows::Rows;
 
-/// What those are asked who answer a script.
+/// What those who answer a script are asked.
 #[derive(Drop)]
 pub struct Asked<'i, 't, 'a, 's, 'j, 'r, 'b, 'u, 'c, 'q, 'l> {
     pub alloc: Global,
@@ -32,17 +32,17 @@ pub struct Asked<'i, 't, 'a, 's, 'j, 'r, 'b, 'u, 'c, 'q, 'l> {
     pub suite: &'s str,
     /// The text of the journal that is gone on with.
     pub journal: Option<&'j str>,
-    /// What makes reports, where there is a tracker.
+    /// What makes reports, if there is a tracker.
     pub reports: Option<&'r Transition<'b, 'u, 'c, 'q>>,
     pub script: &'l str,
 }
 
-/// Who answers a script: a clerk alone, or one beside builders. What they answer is a closure's
-/// contract (`run_with`).
+/// Who answers a script: a clerk without builders, or one with them. What they answer is the
+/// contract of a closure (`run_with`).
 pub trait Staff {
     ghost use Rattle.td_script.specs.Telling.{Telling};
 
-    /// What may be told of a script from this history: the text, and how many refusals.
+    /// What may answer a script from this history: the text, and how many refusals.
     ghost tells: { Self → Telling };
 }
 
@@ -56,7 +56,7 @@ impl Staff for Alone {
     ghost tells = { λ alone. IsAnswered };
 }
 
-// What a clerk alone tells of the lines of a script, from a book.
+// What a clerk without builders answers to the lines of a script, from a book.
 fn tell_begun(
     book: &mut Book<'_>,
     lent: &Lent<'_, '_, '_, Transition<'_, '_, '_, '_>>,
@@ -73,7 +73,7 @@ fn tell_begun(
     }
 }
 
-// The same from a book, if one was begun.
+// What a clerk without builders answers from a book, if one was begun.
 fn tell_if_begun(
     begun: Result<Book<'_>, ReadError>,
     lent: &Lent<'_, '_, '_, Transition<'_, '_, '_, '_>>,
@@ -96,7 +96,7 @@ fn tell_if_begun(
     }
 }
 
-// The same at this board, from the rows and the journal of what is asked.
+// What a clerk without builders answers at this board, from the rows and the journal asked.
 fn tell_at(board: &Board, desk: DeskSeat, asked: Asked) -> Result<Told, ReadError>
     requires board { board.now.table ≡ desk.table }
     requires seat { desk.desk ≡ new_desk (length asked.rows) 0 }
@@ -121,7 +121,7 @@ fn tell_at(board: &Board, desk: DeskSeat, asked: Asked) -> Result<Told, ReadErro
     tell_if_begun(begun, &lent, asked.script)
 }
 
-/// What a clerk alone tells of a script.
+/// What a clerk without builders answers to a script.
 pub fn tell_alone(asked: Asked) -> Result<Told, ReadError>
     requires { IsFit asked }
     ensures { IsToldOf IsAnswered asked.entry result }

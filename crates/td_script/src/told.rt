@@ -1,4 +1,4 @@
-//! What is told of a script: the answers to its lines, one after the other.
+//! The answers to the lines of a script, one after the other.
 ghost use Rattle.std.specs.Prelude.{◌<◌, ◌^◌, ◌-◌, IfOk, OnOk, length};
 ghost use Rattle.td_script.specs.Answering.{IsLeftBy};
 ghost use Rattle.td_script.specs.Replies.{answer as answer_to};
@@ -12,7 +12,7 @@ use std::alloc::AllocError;
 use td_book::Book;
 use td_text::next_line;
 
-/// What is told of a script.
+/// The answers to a script.
 #[derive(Drop)]
 pub struct Told {
     pub text: String,
@@ -42,8 +42,8 @@ fn add_line<R: Reports>(
     Ok(())
 }
 
-/// Answers the lines of a script, one after the other, from a book without builders. Where memory
-/// runs out the book has done what the lines before some place say.
+/// Answers the lines of a script, one after the other, from a book without builders. If memory
+/// runs out, the book has done what the lines before some place say.
 pub fn tell<R: Reports>(
     book: &mut Book<'_>,
     lent: &Lent<'_, '_, '_, R>,

@@ -90,7 +90,7 @@ fn tell_counted(
 }
 
 /// Answers the lines of a script, one after the other, from a book without builders, which watches
-/// the groups of the transition where there is one.
+/// the groups of the transition if there is one.
 pub fn tell_watched(
     book: &mut Book<'_>,
     lent: &Lent<'_, '_, '_, Transition<'_, '_, '_, '_>>,

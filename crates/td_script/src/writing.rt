@@ -1,4 +1,4 @@
-//! The lines of answers. What appends the pieces of a line leaves a front of them where memory runs
+//! The lines of answers. What appends the pieces of a line leaves a front of them if memory runs
 //! out. What appends a whole line, or whole lines, leaves nothing of them then.
 ghost use Rattle.std.specs.Prelude.{◌≡◌, ◌++◌, Some, true, IfOk, OnOk, OnErr, codes, decimal};
 ghost use Rattle.std.specs.List.{flat_map};
@@ -32,7 +32,7 @@ fn write_refusal(out: &mut String, name: &str) -> Result<(), AllocError>
     out.push_str("\n")
 }
 
-/// Appends the line of a refusal; where memory runs out nothing.
+/// Appends the line of a refusal; nothing if memory runs out.
 pub fn put_refusal(out: &mut String, name: &str) -> Result<(), AllocError>
     ensures ok { OnOk result
         (string_bytes out.new ≡ string_bytes out.old ++ refusal_line name.now) }
@@ -46,8 +46,8 @@ pub fn put_refusal(out: &mut String, name: &str) -> Result<(), AllocError>
     done
 }
 
-/// Refuses a line: appends the line of the refusal, and answers that it is refused. Where memory
-/// runs out it appends nothing.
+/// Refuses a line: appends the line of the refusal, and answers that it is refused. If memory
+/// runs out, it appends nothing.
 pub fn refuse(out: &mut String, name: &str) -> Result<bool, AllocError>
     ensures ok { IfOk result
         (IsPut (refusal_line name.now) true (string_bytes out.old) (string_bytes out.new)) }
@@ -78,7 +78,7 @@ fn write_blocked(out: &mut String, n: EntryNo) -> Result<(), AllocError>
     out.push_str("\n")
 }
 
-// Appends the line of an undo that an entry blocks; where memory runs out nothing.
+// Appends the line of an undo that an entry blocks; nothing if memory runs out.
 fn put_blocked(out: &mut String, n: EntryNo) -> Result<(), AllocError>
     ensures ok { OnOk result (string_bytes out.new
         ≡ string_bytes out.old ++ refusal_line (undo_name (UndoRefusal.Blocked n))) }
@@ -92,7 +92,7 @@ fn put_blocked(out: &mut String, n: EntryNo) -> Result<(), AllocError>
     done
 }
 
-/// Appends the line of an undo that is refused; where memory runs out nothing.
+/// Appends the line of an undo that is refused; nothing if memory runs out.
 pub fn put_undo_refusal(out: &mut String, refusal: UndoRefusal) -> Result<(), AllocError>
     ensures ok { OnOk result
         (string_bytes out.new ≡ string_bytes out.old ++ refusal_line (undo_name refusal)) }
@@ -119,7 +119,7 @@ fn write_undone(out: &mut String, n: EntryNo) -> Result<(), AllocError>
     out.push_str("\n")
 }
 
-/// Appends the line of an entry that is undone; where memory runs out nothing.
+/// Appends the line of an entry that is undone; nothing if memory runs out.
 pub fn put_undone(out: &mut String, n: EntryNo) -> Result<(), AllocError>
     ensures ok { OnOk result
         (string_bytes out.new ≡ string_bytes out.old ++ ended (codes "undone " ++ decimal n)) }
@@ -155,7 +155,7 @@ fn write_state_refusal(out: &mut String, name: &str, state: State) -> Result<(),
     out.push_str("\n")
 }
 
-/// Appends the line of a refusal that names a state; where memory runs out nothing.
+/// Appends the line of a refusal that names a state; nothing if memory runs out.
 pub fn put_state_refusal(out: &mut String, name: &str, state: State) -> Result<(), AllocError>
     ensures ok { OnOk result (string_bytes out.new
         ≡ string_bytes out.old ++ refusal_line (name.now ++ state_word state)) }
@@ -183,7 +183,7 @@ fn write_taken(out: &mut String, n: EntryNo, keys: &[Key]) -> Result<(), AllocEr
     out.push_str("\n")
 }
 
-/// Appends the line of an entry that was made on these keys; where memory runs out nothing.
+/// Appends the line of an entry that was made on these keys; nothing if memory runs out.
 pub fn put_taken(out: &mut String, n: EntryNo, keys: &[Key]) -> Result<(), AllocError>
     ensures ok { OnOk result
         (string_bytes out.new ≡ string_bytes out.old ++ entry_made n keys.now) }
@@ -197,7 +197,7 @@ pub fn put_taken(out: &mut String, n: EntryNo, keys: &[Key]) -> Result<(), Alloc
     done
 }
 
-/// Appends the line of an entry that was made; where memory runs out nothing.
+/// Appends the line of an entry that was made; nothing if memory runs out.
 #[tactic(auto, using(td_rows::proofs::Appends::growing))]
 pub fn put_made(out: &mut String, journal: &Journal, n: EntryNo) -> Result<(), AllocError>
     ensures ok { (m : MarkedValue) → entry_at journal.now.entries n ≡ Some m
@@ -222,7 +222,7 @@ fn write_row(out: &mut String, key: &Key, row: &Row) -> Result<(), AllocError>
     out.push_str("\n")
 }
 
-/// Appends the line of a row; where memory runs out nothing.
+/// Appends the line of a row; nothing if memory runs out.
 pub fn put_row(out: &mut String, key: &Key, row: &Row) -> Result<(), AllocError>
     ensures ok { OnOk result
         (string_bytes out.new ≡ string_bytes out.old ++ ended (row_line (key.now, row.now))) }
@@ -247,7 +247,7 @@ fn write_entry(out: &mut String, n: EntryNo, marked: &Marked) -> Result<(), Allo
     out.push_str("\n")
 }
 
-/// Appends the journal's line of an entry; where memory runs out nothing.
+/// Appends the journal's line of an entry; nothing if memory runs out.
 pub fn put_entry(out: &mut String, n: EntryNo, marked: &Marked) -> Result<(), AllocError>
     ensures ok { OnOk result
         (string_bytes out.new ≡ string_bytes out.old ++ ended (entry_line n marked.now)) }
@@ -297,8 +297,8 @@ fn write_skips(out: &mut String, skips: &[Skip]) -> Result<(), AllocError>
     Ok(())
 }
 
-/// Appends the lines of the rows that a command names and doesn't take; where memory runs out
-/// nothing.
+/// Appends the lines of the rows that a command names and doesn't take; nothing if memory runs
+/// out.
 pub fn put_skips(out: &mut String, skips: &[Skip]) -> Result<(), AllocError>
     ensures ok { OnOk result
         (string_bytes out.new ≡ string_bytes out.old ++ flat_map skip_line skips.now) }
@@ -330,7 +330,7 @@ fn write_entered(
 }
 
 /// Appends the line of an entry that was made, and the lines of the rows that its command leaves;
-/// where memory runs out nothing.
+/// nothing if memory runs out.
 pub fn put_entered(
     out: &mut String,
     journal: &Journal,
@@ -362,7 +362,7 @@ fn write_nothing(out: &mut String, skips: &[Skip]) -> Result<(), AllocError>
 }
 
 /// Appends the line of a command that applies on no row, and the lines of those that it names;
-/// where memory runs out nothing.
+/// nothing if memory runs out.
 pub fn put_nothing(out: &mut String, skips: &[Skip]) -> Result<(), AllocError>
     ensures ok { OnOk result (string_bytes out.new ≡ string_bytes out.old
         ++ (refusal_line (codes "NothingApplies") ++ flat_map skip_line skips.now)) }

@@ -16,7 +16,7 @@ fn cause_of(kind: ErrorKind) -> Option<Cause> {
     }
 }
 
-// How many bytes a file has, where that is known and within the limit, and else 0. It may grow.
+// How many bytes a file has, if that is known and within the limit, and else 0. It may grow.
 fn length_within(file: &File, limit: usize) -> usize {
     match file.metadata() {
         Ok(found) if found.is_file() && found.len() <= limit as u64 => found.len() as usize,
@@ -70,7 +70,7 @@ impl Texts for Disk<'_> {
         halves_of(rt, alloc, &file, length, limit)
     }
 
-    // Nothing but a file is opened for it: that of a pipe would wait for a writer.
+    // Only a file is opened for it: to open a pipe would wait for a writer.
     fn cause(&self, path: &str, limit: usize) -> Option<Cause> {
         match fs::metadata(self.0, path) {
             Err(error) => cause_of(error.kind()),

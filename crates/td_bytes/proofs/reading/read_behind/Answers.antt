@@ -1,4 +1,4 @@
--- `read_behind`: what was read stands behind what was there.
+-- `read_behind`: what was read comes after what was there.
 use Rattle.std.proofs.Common.{◌≡◌, ◌+◌, ◌-◌, ◌≤◌, ◌∙◌, ap, arith, drop, rules, length, take}
 use Rattle.std.proofs.Common.{length-drop, length-take-le}
 use Rattle.td_bytes.proofs.Behind.{take-filled, take-read}

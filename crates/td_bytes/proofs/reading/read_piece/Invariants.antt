@@ -4,7 +4,7 @@ use Rattle.std.specs.Io.KnownBytes.{Keeps}
 use Rattle.td_bytes.proofs.Failures.{AreBorne}
 use Rattle.td_bytes.proofs.reading.read_piece.Given as goal
 
--- an interrupted read loses nothing, and so many were
+-- an interrupted read loses nothing, and the interrupted ones are counted
 abbrev pub invariant-loop-tries : goal.invariant-loop-tries
 invariant-loop-tries g l =
     (length l.buffer ≡ length l.initial.buffer)

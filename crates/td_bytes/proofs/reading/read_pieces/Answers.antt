@@ -1,4 +1,4 @@
--- `read_pieces`: its loop, and the clauses `lost` and `fault` where a piece was read.
+-- `read_pieces`: its loop, and the clauses `lost` and `fault` if a piece was read.
 use Rattle.std.proofs.Common.{◌≡◌, ◌+◌, ◌-◌, ◌≤◌, ◌++◌, ◌∙◌, ap, arith, rules, length, take}
 use Rattle.std.proofs.Common.{length-append}
 use Rattle.std.proofs.KnownBytes.{Consumes-trans}

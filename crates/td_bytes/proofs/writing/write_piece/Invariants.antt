@@ -4,7 +4,7 @@ use Rattle.std.specs.Io.KnownBytes.{Keeps}
 use Rattle.td_bytes.proofs.Failures.{AreBorne}
 use Rattle.td_bytes.proofs.writing.write_piece.Given as goal
 
--- an interrupted write takes nothing, and so many were
+-- an interrupted write takes nothing, and the interrupted ones are counted
 abbrev pub invariant-loop-tries : goal.invariant-loop-tries
 invariant-loop-tries g l =
     Keeps (g.W.Write.contents l.initial.writer) (g.W.Write.contents l.writer)

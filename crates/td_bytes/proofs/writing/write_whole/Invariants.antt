@@ -3,7 +3,7 @@ use Rattle.std.proofs.Common.{◌≡◌, ℕ, List, ◌++◌, length}
 use Rattle.std.specs.Io.KnownBytes.{Appends}
 use Rattle.td_bytes.proofs.writing.write_whole.Given as goal
 
--- what was taken so far is in front of what is left, and no write has failed
+-- what was taken so far comes before what is left, and no write has failed
 abbrev pub invariant-loop-rest : goal.invariant-loop-rest
 invariant-loop-rest g l =
     ((done : List ℕ) × (l.initial.rest ≡ done ++ l.rest)

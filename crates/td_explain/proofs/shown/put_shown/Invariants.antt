@@ -4,7 +4,7 @@ use Rattle.std.specs.Str.Iter.{chars_rest}
 use Rattle.td_explain.specs.Shown.{shown, shown_from}
 use Rattle.td_explain.proofs.shown.put_shown.Given as goal
 
--- what is left of the text is shown behind what was appended
+-- what is left of the text is shown after what was appended
 abbrev pub invariant-loop-c : goal.invariant-loop-c
 invariant-loop-c l = IsUtf8 (chars_rest l.rest)
     × (string_bytes l.out ++ shown_from l.left (chars (chars_rest l.rest))

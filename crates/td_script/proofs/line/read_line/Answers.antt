@@ -1,4 +1,4 @@
--- `read_line`: memory is wanting for a key alone.
+-- `read_line`: memory runs out only for a key.
 use Rattle.std.proofs.Common.{sym, ◌∙◌}
 use Rattle.std.proofs.lemmas.Result.{err_from_is_err_and}
 use Rattle.td_script.proofs.KeyLaws.{said_by_key}

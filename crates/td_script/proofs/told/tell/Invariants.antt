@@ -4,7 +4,7 @@ use Rattle.td_text.specs.Lines.{left_len}
 use Rattle.td_script.proofs.ScriptLaws.{IsSoFar}
 use Rattle.td_script.proofs.told.tell.Given as goal
 
--- what is told so far, with the answers to what is left, is the whole
+-- the answers so far, with those to the lines that are left, are those to the whole script
 abbrev pub invariant-loop-rest : goal.invariant-loop-rest
 invariant-loop-rest g l =
     IsSoFar (map (λ (s : Bor (List ℕ)). s.now) l.fn.lent.suites.now)

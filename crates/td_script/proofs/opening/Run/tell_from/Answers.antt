@@ -1,4 +1,4 @@
--- `Run::tell_from`: what may be asked, and what is told.
+-- `Run::tell_from`: what may be asked, and what is answered.
 use Rattle.td_script.proofs.StaffLaws.{run_of}
 use Rattle.td_script.proofs.opening.Run.tell_from.Goals as goal
 
