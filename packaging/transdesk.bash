@@ -3,7 +3,7 @@
 
 _transdesk() {
     local word=${COMP_WORDS[COMP_CWORD]} before=${COMP_WORDS[COMP_CWORD - 1]}
-    local subcommands="simulate check track waves run help" options="--explain --help"
+    local subcommands="simulate check track waves plan run help" options="--explain --help"
     COMPREPLY=()
     if [ "$COMP_CWORD" -eq 1 ]; then
         mapfile -t COMPREPLY < <(compgen -W "$subcommands --help --version" -- "$word")
@@ -22,6 +22,10 @@ _transdesk() {
         options="$options --explain --help"
         ;;
     waves) options="--archs --packages --sources --tracker --explain --help" ;;
+    plan)
+        options="--archs --packages --sources --tracker --message --state --suite"
+        options="$options --explain --help"
+        ;;
     run)
         options="--archs --packages --sources --state --tracker --suite --builders --outcomes"
         options="$options --journal --explain --help"
@@ -43,7 +47,7 @@ _transdesk() {
     --only)
         mapfile -t COMPREPLY < <(compgen -W "good bad partial unknown bad,partial" -- "$word")
         ;;
-    --chunk | --suite | --builders) ;;
+    --chunk | --message | --suite | --builders) ;;
     *)
         # Each option is given once.
         local given option left=

@@ -9,6 +9,7 @@ _transdesk() {
         'check:count what two package indices hold'
         'track:report how far a transition has come'
         'waves:list the sources of a transition by levels'
+        'plan:write the lines that rebuild a transition'
         'run:do what a script says over the rows of an archive'
         'help:tell of a subcommand'
     )
@@ -35,6 +36,11 @@ _transdesk() {
                 '--only=[statuses of the rows that are printed]:statuses:(good bad partial unknown bad,partial)' \
                 '--summary[print no rows]' \
                 '--chunk=[rows of a piece]:rows:' $explain '--help[tell of the subcommand]'
+            ;;
+        plan)
+            _arguments $indices $tracker '--message=[why rows are rebuilt]:text:' \
+                '--state=[rows in the place of others]:file:_files' \
+                '--suite=[the suite that lines name]:suite:' $explain '--help[tell of the subcommand]'
             ;;
         run)
             _arguments $indices $tracker '--state=[rows in the place of others]:file:_files' \

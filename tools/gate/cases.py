@@ -13,14 +13,16 @@ EXAMPLES = f"{TOP}/examples"
 INDICES = ("archs", "packages", "sources")
 OF_ARCHIVE = (*INDICES, "tracker")
 OF_CASE = ("state", "journal", "outcomes")
-# The files of a case that have an option's value, and those that stand for an option without one.
-VALUES, FLAGS = ("builders", "only"), ("summary",)
+# The files of a case that have the value of an option, up to a last newline, and those that stand for
+# an option without one.
+VALUES, FLAGS = ("builders", "message", "only", "suite"), ("summary",)
 # What each subcommand reads, in this order.
 READ_BY = {
     "simulate": (),
     "check": INDICES,
     "track": (*INDICES, "state", "tracker"),
     "waves": (*INDICES, "tracker"),
+    "plan": (*INDICES, "state", "tracker"),
     "run": (*INDICES, "state", "tracker", "journal", "outcomes"),
 }
 # The program of this checkout, and the one that a gate has built.
@@ -36,9 +38,9 @@ def read(path):
         return b""
 
 
-def options(files):
-    """The words for files, by their roles."""
-    return [f"--{role}={path}" for role, path in files.items()]
+def options(values):
+    """The words for options, by their names: paths of files mostly."""
+    return [f"--{name}={value}" for name, value in values.items()]
 
 
 def archive(name, roles=INDICES):
@@ -99,11 +101,16 @@ class Case:
         """The number of builders, as it is written; None if the case has none."""
         return self.read("builders").decode().strip() or None
 
+    def values(self):
+        """The values of the options that aren't files, by their names."""
+        return {
+            name: self.read(name).decode().removesuffix("\n") for name in VALUES if self.has(name)
+        }
+
     def words(self):
         """The words by which the program is called."""
-        values = {name: self.read(name).decode().strip() for name in VALUES if self.has(name)}
         flags = [f"--{name}" for name in FLAGS if self.has(name)]
-        return [self.command, *options(self.files()), *options(values), *flags]
+        return [self.command, *options(self.files()), *options(self.values()), *flags]
 
     def wanted(self):
         """The exit status, standard output and standard error that the case has to end with."""

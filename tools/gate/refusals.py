@@ -5,7 +5,9 @@ import os
 import cases
 from runs import TOO_LONG
 
-COMMANDS = ("check", "track", "waves", "run")
+COMMANDS = ("check", "track", "waves", "plan", "run")
+# The words that a subcommand needs besides its files.
+NEEDED = {"plan": ["--message=x"]}
 WAVES = cases.archive("waves", cases.OF_ARCHIVE)
 # A text that isn't UTF-8.
 NO_TEXT = cases.Case("simulate", "latin-1").path("input")
@@ -52,7 +54,7 @@ def words_of(command, changed, *others):
     """The words of a subcommand over the archive `waves`, with other files for some roles."""
     files = {**WAVES, **changed}
     read = {role: files[role] for role in cases.READ_BY[command] if role in files}
-    return [command, *others, *cases.options(read)]
+    return [command, *NEEDED.get(command, ()), *others, *cases.options(read)]
 
 
 def said_of(role, fault, *more):
@@ -183,12 +185,12 @@ def two_faults(runs, command, roles, first, second, fit):
     ]
     if first != second:
         ends.append((2, f"{second}: NotText", unfit, NO_TEXT))
-    builders = ["--builders", "1"] if command == "run" else []
+    others = ["--builders", "1"] if command == "run" else NEEDED.get(command, ())
     for status, line, of_first, of_second in ends:
         files = {role: fit.get(role) or WAVES[role] for role in roles}
         files.update({second: of_second})
         files.update({first: of_first})
-        found = runs.end([command, *builders, *cases.options(files)])
+        found = runs.end([command, *others, *cases.options(files)])
         said = f"transdesk: {line}\n".encode()
         runs.compare(f"{line}, of {first} and {second} of {command}", found, status, stderr=said)
 
@@ -207,6 +209,7 @@ def first_of_two(runs):
     for command, roles in (
         ("check", cases.INDICES),
         ("track", (*cases.INDICES, "state", "tracker")),
+        ("plan", (*cases.INDICES, "state", "tracker")),
         ("run", (*cases.INDICES, "state", "tracker", "outcomes", "journal")),
     ):
         for at, first in enumerate(roles):
@@ -238,9 +241,10 @@ def strange_rows(runs):
     strange = runs.put("strange", "zz/amd64 Installed 0 0\n")
     lines = "\nte/amd64 Failed 0 0\nzz/amd64 Installed 0 0\naa/amd64 Installed 0 0\n"
     strangers = runs.put("strangers", lines)
-    found = runs.end(words_of("track", {"state": strange}))
     refused = said_of("state", "NoSuchRow")
-    runs.compare("a row that the archive hasn't", found, 2, stderr=refused)
+    for command in ("track", "plan"):
+        found = runs.end(words_of(command, {"state": strange}))
+        runs.compare(f"a row that the archive of {command} hasn't", found, 2, stderr=refused)
     why = 'state: line 3 has "zz/amd64 Installed 0 0"; wanted: a row that the indices give\n'
     found = runs.end(words_of("track", {"state": strangers}, "--explain"))
     runs.compare("the first line of a row that the archive hasn't", found, 2,

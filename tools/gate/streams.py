@@ -59,6 +59,7 @@ def full_disk(runs):
     for what, words, path in (
         ("a full disk", ["simulate"], SIMULATED),
         ("a check on a full disk", words_of("check", {}), None),
+        ("a plan on a full disk", words_of("plan", {}), None),
         ("a run on a full disk", ["run", *indices()], row),
     ):
         with open("/dev/full", "wb") as full:
@@ -101,6 +102,8 @@ def trackers(runs):
     runs.compare("a report of a tracker that affects nothing", found, 0, counts)
     found = runs.end(words_of("waves", {"tracker": tracker}))
     runs.compare("the waves of a tracker that affects nothing", found, 0)
+    found = runs.end(words_of("plan", {"tracker": tracker}))
+    runs.compare("the plan of a tracker that affects nothing", found, 0, b"# tracker T\n")
     text = "is_affected = .package ~ /^(pa|rc)$/; is_good = true; is_bad = true;\n"
     found = runs.end(words_of("waves", {"tracker": runs.put("affects-two", text)}))
     runs.compare("what isn't affected holds nothing up", found, 0, b"level 1\npa\nrc\n")

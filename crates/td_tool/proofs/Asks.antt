@@ -1,6 +1,7 @@
 -- What is answered to words, by what they were read as.
 use Rattle.std.proofs.Common.{◌≡◌, ℕ, Bool, List, Option, Result, Ok, Err, IfOk}
-use Rattle.std.proofs.Common.{IfErr, IsOkAnd, MatchResult, None, String, Vec, map, string_bytes}
+use Rattle.std.proofs.Common.{IfErr, IsOkAnd, MatchResult, None, Some, String, Vec, map}
+use Rattle.std.proofs.Common.{string_bytes}
 use Rattle.std.specs.Prelude.{codes}
 use Rattle.std.proofs.Common.{true, false, inl, inr, refl, sym, ap, subst, ◌∙◌}
 use Rattle.std.specs.declared.alloc.Global.{Global}
@@ -8,12 +9,15 @@ use Rattle.std.specs.Io.KnownBytes.{Keeps}
 use Rattle.td_bytes.specs.declared.text.TextFault.{TextFault}
 use Rattle.td_report.specs.Transition.{IsReportOf, IsWaves}
 use Rattle.td_words.specs.Asked.{Asks, IsUsage, RequestWords, builders_said, check_of}
-use Rattle.td_words.specs.Asked.{report_of, request_words, run_of, simulation, track_said, waves_of}
+use Rattle.td_words.specs.Asked.{plan_of, report_of, request_words, run_of, simulation, track_said}
+use Rattle.td_words.specs.Asked.{waves_of}
 use Rattle.td_words.specs.CommandLine.{AskFor, HasFiles, HasTracker, RunWords, TrackWords}
 use Rattle.td_words.specs.CommandLine.{is_explained, options_of}
+use Rattle.td_words.specs.PlanWords.{HasMessage, PlanWords, line_words_said}
 use Rattle.td_words.specs.declared.request.Call.{Call}
 use Rattle.td_words.specs.declared.request.Request.{Request}
-use Rattle.td_words.specs.declared.request.Request.TheVariants.{Simulate, Check, Track, Waves, Run}
+use Rattle.td_words.specs.declared.request.Request.TheVariants.{Simulate, Check, Track, Waves}
+use Rattle.td_words.specs.declared.request.Request.TheVariants.{Plan, Run}
 use Rattle.td_words.specs.declared.request.WordsFault.{WordsFault}
 use Rattle.td_words.specs.declared.request.WordsFault.TheVariants as words_fault
 use Rattle.td_tool.specs.declared.ending.Ending.{Ending}
@@ -21,12 +25,12 @@ use Rattle.td_tool.specs.declared.ending.Ending.TheVariants.{NoMemory}
 use Rattle.td_inputs.specs.declared.role.Role.{Role}
 use Rattle.td_tool.specs.Checks.{Checks, files_of}
 use Rattle.td_tool.specs.Ends.{Ends}
-use Rattle.td_tool.specs.Explained.{archive_paths, known_at, known_input, run_paths}
+use Rattle.td_tool.specs.Explained.{archive_paths, known_at, known_input, plan_paths, run_paths}
 use Rattle.td_tool.specs.Explained.{track_paths, waves_paths}
 use Rattle.td_tool.specs.Program.{IsTold, LeavesInput, OnlyIfAsked, RanFor, are_explained}
-use Rattle.td_tool.specs.Program.{files_asked}
+use Rattle.td_tool.specs.Program.{files_asked, plan_files, words_asked}
 use Rattle.td_tool.specs.Runs.{EndsRun, run_files_asked}
-use Rattle.td_tool.specs.Tracks.{EndsSo, track_files}
+use Rattle.td_tool.specs.Tracks.{EndsSo, IsPlanWith, track_files}
 use Rattle.td_tool.specs.Ran.{Ran}
 use Rattle.td_tool.specs.Streams.{DueTo}
 use Rattle.td_tool.proofs.Explanations.{line_alone}
@@ -96,6 +100,10 @@ module _ (words : List (List ℕ)) (known left : Option (List ℕ))
       Ran (DueTo reads writes
       (EndsSo IsWaves (track_files bytes can_fail archs packages sources None tracker) old new))
       b (known_at bytes (waves_paths archs packages sources tracker)) before said status
+  RanWords (plan_of w) b =
+      Ran (DueTo reads writes
+      (EndsSo (IsPlanWith (words_asked w)) (plan_files bytes can_fail w) old new)) b
+      (known_at bytes (plan_paths w)) before said status
   RanWords (run_of w) b =
       Ran (DueTo reads writes
       (EndsRun (run_files_asked bytes can_fail w) w.suite known left old new)) b
@@ -108,6 +116,7 @@ module _ (words : List (List ℕ)) (known left : Option (List ℕ))
   ran_words (Check p) b ran = ran
   ran_words (Track r) b ran = ran
   ran_words (Waves p t) b ran = ran
+  ran_words (Plan r) b ran = ran
   ran_words (Run r) b ran = ran
 
   ran_same : (w : RequestWords) (q : Request) (b : Bool)
@@ -172,6 +181,19 @@ module _ (words : List (List ℕ)) (known left : Option (List ℕ))
       (ran_same (waves_of archs packages sources tracker))
       (λ kept. (record { says = inl (refl, kept); only = λ x are readable. kept }, tt))
 
+  pub planned : (r : Result Call WordsFault) (explained : Bool) (w : PlanWords) → HasRun r
+      → WasTold r → HasFlag explained r
+      → MatchResult r (λ c. request_words c.request ≡ plan_of w) (λ e. e ≡ words_fault.NoMemory)
+      → Ran (DueTo reads writes
+      (EndsSo (IsPlanWith (words_asked w)) (plan_files bytes can_fail w) old new))
+      explained (known_at bytes (plan_paths w)) before said status
+  planned r explained w =
+      answered (DueTo reads writes
+      (EndsSo (IsPlanWith (words_asked w)) (plan_files bytes can_fail w) old new))
+      (known_at bytes (plan_paths w)) (λ q. request_words q ≡ plan_of w) r explained
+      (ran_same (plan_of w))
+      (λ kept. (record { says = inl (refl, kept); only = λ x are readable. kept }, tt))
+
   pub ran_script : (r : Result Call WordsFault) (explained : Bool) (w : RunWords) → HasRun r
       → WasTold r → HasFlag explained r
       → MatchResult r (λ c. request_words c.request ≡ run_of w) (λ e. e ≡ words_fault.NoMemory)
@@ -199,11 +221,15 @@ module _ (words : List (List ℕ)) (known left : Option (List ℕ))
       → ((archs packages sources tracker : List ℕ) → AskFor (codes "track") words
       → HasTracker (options_of words) archs packages sources tracker
       → IfErr r (λ e. IsUsage e (track_said (options_of words))))
+      → ((archs packages sources tracker message : List ℕ) → AskFor (codes "plan") words
+      → HasTracker (options_of words) archs packages sources tracker
+      → HasMessage (options_of words) message
+      → IfErr r (λ e. IsUsage e (line_words_said message)))
       → ((archs packages sources : List ℕ) → AskFor (codes "run") words
       → HasFiles (options_of words) archs packages sources
       → IfErr r (λ e. IsUsage e builders_said))
       → OnlyIfAsked words known left bytes can_fail reads writes old new before said status
-  only_asked (Ok c) ran told flag input asks chunk builders =
+  only_asked (Ok c) ran told flag input asks chunk plan builders =
       inl (
         c.request,
         asks,
@@ -211,11 +237,15 @@ module _ (words : List (List ℕ)) (known left : Option (List ℕ))
         subst (λ b. RanFor c.request b known left bytes can_fail reads writes old new before said
             status) flag ran,
       )
-  only_asked (Err (words_fault.Usage text)) ran told flag input asks chunk builders =
+  only_asked (Err (words_fault.Usage text)) ran told flag input asks chunk plan builders =
       inr (
-        inl (string_bytes text, record { chunk = chunk; builders = builders }, told.tells),
+        inl (
+          string_bytes text,
+          record { chunk = chunk; plan = plan; builders = builders },
+          told.tells,
+        ),
         input,
         told.kept,
       )
-  only_asked (Err words_fault.NoMemory) ran told flag input asks chunk builders =
+  only_asked (Err words_fault.NoMemory) ran told flag input asks chunk plan builders =
       inr (inr told.tells, input, told.kept)

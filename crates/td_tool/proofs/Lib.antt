@@ -8,6 +8,7 @@ pub mod Counting
 pub mod Asks
 pub mod Explanations
 pub mod Told
+pub mod Plans
 pub mod Sure
 pub mod UnreadRuns
 pub mod SureRuns

@@ -1,4 +1,4 @@
--- How `track` and `waves` end by what was read, and by what was found in it.
+-- How `track`, `waves` and `plan` end by what was read, and by what was found in it.
 use Rattle.std.proofs.Common.{◌≡◌, ℕ, List, Option, None, Some, Result, Ok, Err}
 use Rattle.std.proofs.Common.{IfOk, IfErr, IfSome, String, string_bytes}
 use Rattle.std.proofs.Common.{inl, inr, refl, sym, ap, subst, ◌∙◌}
@@ -33,9 +33,9 @@ use Rattle.td_tool.specs.declared.ending.Ending.TheVariants.{NoMemory}
 use Rattle.td_tool.specs.Ending.{ending_of_opening}
 use Rattle.td_tool.specs.Checks.{Files, HasFailed}
 use Rattle.td_tool.specs.Tracks.{AreRefused, IsPatternRefused, RowsSay, Saying, Texts, as_script}
-use Rattle.td_tool.specs.TrackInside.{GivenSays, OrMemory, Tells, saying_of}
-use Rattle.td_tool.specs.declared.tracking.Asked.{Asked}
-use Rattle.td_tool.specs.declared.tracking.Asked.TheVariants.{Report, Waves}
+use Rattle.td_tool.specs.TrackInside.{AreLookedAt, GivenSays, OrMemory, Tells, listed_of}
+use Rattle.td_tool.specs.declared.tracking.Listing.{Listing}
+use Rattle.td_tool.specs.declared.tracking.Listing.TheVariants.{Report, Waves}
 
 -- ---- a file that wasn't read
 
@@ -60,10 +60,10 @@ pub told_of : (Says : Saying) (c d : Contents) (t u : Tracking) (rows : Table) (
 told_of Says c d t u rows text first second says =
     subst (λ x. Says d x rows text) second (subst (λ x. Says x t rows text) first says)
 
--- what a text says of rows that stand for all opening rows it says of all of them
-all_are_said : (asked : Asked) (x : Transition) (rows : Table) (text : List ℕ)
-    → StandForAll x rows → saying_of asked (contents_of x) (tracking_of x) rows text
-    → GivenSays (saying_of asked) (contents_of x) None (tracking_of x) text
+-- what a list says of rows that stand for all opening rows it says of all of them
+all_are_said : (listing : Listing) (x : Transition) (rows : Table) (text : List ℕ)
+    → StandForAll x rows → listed_of listing (contents_of x) (tracking_of x) rows text
+    → GivenSays (listed_of listing) (contents_of x) None (tracking_of x) text
 all_are_said (Report shown chunk) x rows text stand says = (
   stand.all,
   record { same = stand.opened; rising = stand.rising },
@@ -88,16 +88,24 @@ all_are_said Waves x rows text stand says = (
   },
 )
 
-pub opening_is_said : {E : Type 0} (asked : Asked) (x : Transition) (c : Contents) (t : Tracking)
-    (rows : Table) (r : Result (String Global) E) → contents_of x ≡ c → tracking_of x ≡ t
-    → StandForAll x rows
-    → IfOk r (λ text. saying_of asked (contents_of x) (tracking_of x) rows (string_bytes text))
-    → IfOk r (λ text. GivenSays (saying_of asked) c None t (string_bytes text))
-opening_is_said asked x c t rows (Ok text) first second stand says =
-    subst (λ u. GivenSays (saying_of asked) c None u (string_bytes text)) second
-    (subst (λ d. GivenSays (saying_of asked) d None (tracking_of x) (string_bytes text)) first
-    (all_are_said asked x rows (string_bytes text) stand says))
-opening_is_said asked x c t rows (Err e) first second stand says = tt
+pub opening_is_said : {E : Type 0} (listing : Listing) (x : Transition) (c : Contents)
+    (t : Tracking) (rows : Table) (r : Result (String Global) E) → contents_of x ≡ c
+    → tracking_of x ≡ t → StandForAll x rows
+    → IfOk r (λ text. listed_of listing (contents_of x) (tracking_of x) rows (string_bytes text))
+    → IfOk r (λ text. GivenSays (listed_of listing) c None t (string_bytes text))
+opening_is_said listing x c t rows (Ok text) first second stand says =
+    subst (λ u. GivenSays (listed_of listing) c None u (string_bytes text)) second
+    (subst (λ d. GivenSays (listed_of listing) d None (tracking_of x) (string_bytes text)) first
+    (all_are_said listing x rows (string_bytes text) stand says))
+opening_is_said listing x c t rows (Err e) first second stand says = tt
+
+-- what is said of the rows that are looked at is said of what was opened
+pub looked_at_says : (Says : Saying) (c : Contents) (given : Option Table) (rows : Table)
+    (t : Tracking) (text : List ℕ) → AreLookedAt c given rows → Says c t rows text
+    → GivenSays Says c given t text
+looked_at_says Says c None rows t text are says = (rows, are, says)
+looked_at_says Says c (Some given) rows t text are says =
+    subst (λ r. Says c t r text) are says
 
 -- ---- what was opened
 

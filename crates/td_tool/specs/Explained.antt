@@ -8,8 +8,9 @@ use Rattle.td_explain.specs.declared.spot.Place.{Place}
 use Rattle.td_explain.specs.declared.spot.Place.TheVariants.{Whole, Line, Stanza, Byte}
 use Rattle.td_explain.specs.Explanation.{explanation}
 use Rattle.td_report.specs.Report.{all_shown}
-use Rattle.td_words.specs.Asked.{run_words, track_words}
+use Rattle.td_words.specs.Asked.{plan_words, run_words, track_words}
 use Rattle.td_words.specs.CommandLine.{RunWords, TrackWords}
+use Rattle.td_words.specs.PlanWords.{PlanWords}
 use Rattle.td_words.specs.declared.request.Request.{Request}
 use Rattle.td_words.specs.declared.request.Request.TheVariants as asked
 use Rattle.td_tool.specs.Ending.{line_of}
@@ -68,6 +69,19 @@ waves_paths archs packages sources tracker =
       chunk = None;
     })
 
+-- the paths of a plan's files, by role: as of a report over the same files
+abbrev pub plan_paths : PlanWords → Role → Option (List ℕ)
+plan_paths w =
+    track_paths (record {
+      archs = w.archs;
+      packages = w.packages;
+      sources = w.sources;
+      tracker = w.tracker;
+      state = w.state;
+      shown = all_shown;
+      chunk = None;
+    })
+
 -- the paths of a run's files, by role
 abbrev pub run_paths : RunWords → Role → Option (List ℕ)
 run_paths w Input = None
@@ -104,6 +118,7 @@ paths_of (asked.Track r) role = track_paths (track_words r) role
 paths_of (asked.Waves files tracker) role =
     waves_paths (string_bytes files.archs) (string_bytes files.packages)
     (string_bytes files.sources) (string_bytes tracker) role
+paths_of (asked.Plan r) role = plan_paths (plan_words r) role
 paths_of (asked.Run r) role = run_paths (run_words r) role
 
 -- the texts of a request, by role, if they are known: a simulation has only standard input, and no
@@ -118,6 +133,7 @@ known_of_request (asked.Track r) known bytes = known_at bytes (track_paths (trac
 known_of_request (asked.Waves files tracker) known bytes =
     known_at bytes (waves_paths (string_bytes files.archs) (string_bytes files.packages)
     (string_bytes files.sources) (string_bytes tracker))
+known_of_request (asked.Plan r) known bytes = known_at bytes (plan_paths (plan_words r))
 known_of_request (asked.Run r) known bytes = known_at bytes (run_paths (run_words r))
 
 -- ---- 2. the explanation

@@ -9,20 +9,23 @@ use Rattle.std.specs.Io.KnownBytes.{Keeps}
 use Rattle.td_bytes.specs.Pieces.{AppendsPrefix}
 use Rattle.td_bytes.specs.declared.text.TextFault.{TextFault}
 use Rattle.td_words.specs.declared.request.Request.{Request}
-use Rattle.td_words.specs.declared.request.Request.TheVariants.{Simulate, Check, Track, Waves, Run}
+use Rattle.td_words.specs.declared.request.Request.TheVariants.{Simulate, Check, Track, Waves}
+use Rattle.td_words.specs.declared.request.Request.TheVariants.{Plan, Run}
 use Rattle.td_words.specs.declared.request.WordsFault.{WordsFault}
 use Rattle.td_words.specs.declared.request.WordsFault.TheVariants as words_fault
+use Rattle.td_plan.specs.Lines.{Words}
 use Rattle.td_report.specs.Transition.{IsReportOf, IsWaves}
-use Rattle.td_words.specs.Asked.{Asks, builders_said, request_words, run_words}
-use Rattle.td_words.specs.Asked.{track_said, track_words}
+use Rattle.td_words.specs.Asked.{Asks, builders_said, plan_words, request_words}
+use Rattle.td_words.specs.Asked.{run_words, track_said, track_words}
 use Rattle.td_words.specs.CommandLine.{AskFor, HasFiles, HasTracker, TrackWords, is_explained}
 use Rattle.td_words.specs.CommandLine.{options_of}
+use Rattle.td_words.specs.PlanWords.{HasMessage, PlanWords, line_words_said}
 use Rattle.td_tool.specs.declared.ending.Ending.{Ending}
 use Rattle.td_tool.specs.declared.ending.Ending.TheVariants.{NoMemory}
 use Rattle.td_tool.specs.Ending.{line_of}
 use Rattle.td_tool.specs.Ends.{Ends}
 use Rattle.td_tool.specs.Checks.{Checks, archive_files_at}
-use Rattle.td_tool.specs.Tracks.{EndsSo, TrackFiles, track_files}
+use Rattle.td_tool.specs.Tracks.{EndsSo, IsPlanWith, TrackFiles, track_files}
 use Rattle.td_tool.specs.Runs.{EndsRun, run_files_asked}
 use Rattle.td_tool.specs.Explained.{known_of_request}
 use Rattle.td_tool.specs.Ran.{Ran}
@@ -73,13 +76,17 @@ pub record TellsUnread (kind : ErrorKind) (said_before said : Option (List ℕ))
   pub memory : kind ≡ OutOfMemory → LacksMemory said_before said status
   pub other : kind ≢ OutOfMemory → IsBadWords no_words said_before said status
 
--- the text of words with which only the number of a chunk or of builders, or the list of statuses,
--- can be wrong says which there may be. All other texts are `clap`'s, and no clause of it says what
--- they are
+-- what is said of words with which nothing can be wrong but the number of a chunk, the list of
+-- statuses, the number of builders, or what a plan's lines say: which there may be. All other
+-- texts are `clap`'s, and no clause of it says what they are
 pub record SaysWhich (words : List (List ℕ)) (text : List ℕ) : Type 0 where
   pub chunk : (archs packages sources tracker : List ℕ) → AskFor (codes "track") words
       → HasTracker (options_of words) archs packages sources tracker
       → text ≡ track_said (options_of words)
+  pub plan : (archs packages sources tracker message : List ℕ) → AskFor (codes "plan") words
+      → HasTracker (options_of words) archs packages sources tracker
+      → HasMessage (options_of words) message
+      → text ≡ line_words_said message
   pub builders : (archs packages sources : List ℕ) → AskFor (codes "run") words
       → HasFiles (options_of words) archs packages sources → text ≡ builders_said
 
@@ -102,6 +109,16 @@ abbrev pub files_asked : (List ℕ → Option (List ℕ)) → (List ℕ → Text
 files_asked bytes can_fail w =
     track_files bytes can_fail w.archs w.packages w.sources w.state w.tracker
 
+-- the files of which a plan is asked for
+abbrev pub plan_files : (List ℕ → Option (List ℕ)) → (List ℕ → TextFault → Bool) → PlanWords
+    → TrackFiles
+plan_files bytes can_fail w =
+    track_files bytes can_fail w.archs w.packages w.sources w.state w.tracker
+
+-- the message and the suite with which it is
+abbrev pub words_asked : PlanWords → Words
+words_asked w = record { message = w.message; suite = w.suite }
+
 -- what was asked for ends so
 abbrev pub EndsFor : Request → Option (List ℕ) → Option (List ℕ) → (List ℕ → Option (List ℕ))
     → (List ℕ → TextFault → Bool) → Option (List ℕ) → Option (List ℕ) → Ending → Type 0
@@ -114,6 +131,9 @@ EndsFor (Waves files tracker) known left bytes can_fail old new ending =
     EndsSo IsWaves (track_files bytes can_fail (string_bytes files.archs)
     (string_bytes files.packages) (string_bytes files.sources) None (string_bytes tracker)) old new
     ending
+EndsFor (Plan r) known left bytes can_fail old new ending =
+    EndsSo (IsPlanWith (words_asked (plan_words r))) (plan_files bytes can_fail (plan_words r)) old
+    new ending
 EndsFor (Run r) known left bytes can_fail old new ending =
     EndsRun (run_files_asked bytes can_fail (run_words r)) (string_bytes r.suite) known left old
     new ending
@@ -133,6 +153,7 @@ HasNoBuilders Simulate = Unit {0}
 HasNoBuilders (Check files) = Unit {0}
 HasNoBuilders (Track r) = Unit {0}
 HasNoBuilders (Waves files tracker) = Unit {0}
+HasNoBuilders (Plan r) = Unit {0}
 HasNoBuilders (Run r) = r.builders ≡ 0
 
 -- standard input is read only for a simulation and for a run: all else leaves it as it was. When a
@@ -142,6 +163,7 @@ LeavesInput Simulate known left = Unit {0}
 LeavesInput (Check files) known left = Keeps known left
 LeavesInput (Track r) known left = Keeps known left
 LeavesInput (Waves files tracker) known left = Keeps known left
+LeavesInput (Plan r) known left = Keeps known left
 LeavesInput (Run r) known left = Unit {0}
 
 -- the words ask for a request, and it ran; or the program says why not, reads and writes nothing

@@ -1,4 +1,4 @@
--- What the inner functions of `track` and `waves` answer. This project's own.
+-- What the inner functions of `track`, `waves` and `plan` answer. This project's own.
 use Rattle.std.specs.Prelude.{◌≡◌, ◌⊎◌, ◌≤◌, ℕ, Bool, List, length, Option, None, Some, option_map}
 use Rattle.std.specs.Prelude.{Result, IfOk, IfErr, String, string_bytes}
 use Rattle.std.specs.declared.alloc.Global.{Global}
@@ -6,10 +6,16 @@ use Rattle.std.specs.Io.KnownBytes.{Keeps}
 use Rattle.td_bytes.specs.declared.text.TextFault.{TextFault}
 use Rattle.td_rows.specs.Table.{Table}
 use Rattle.td_indices.specs.Archive.{Contents}
+use Rattle.td_inputs.specs.Inputs as inputs
 use Rattle.td_inputs.specs.Inputs.{AreOpened}
+use Rattle.td_inputs.specs.Opened.{IsOpened}
+use Rattle.td_inputs.specs.declared.opened.Opened.{Opened}
 use Rattle.td_inputs.specs.declared.role.Role.{Role}
+use Rattle.td_plan.specs.Lines.{Words}
+use Rattle.td_plan.specs.inner.Writing.{seen_words}
 use Rattle.td_query.specs.Tracking.{Tracking}
 use Rattle.td_report.specs.Transition.{IsReportOf, IsWaves}
+use Rattle.td_words.specs.declared.line_words.LineWords.{LineWords}
 use Rattle.td_tool.specs.Limits.{file_limit}
 use Rattle.td_tool.specs.declared.early_texts.EarlyTexts.{EarlyTexts}
 use Rattle.td_tool.specs.declared.file_texts.FileFault.{FileFault}
@@ -18,17 +24,28 @@ use Rattle.td_tool.specs.declared.track_files.TrackPaths.{TrackPaths}
 use Rattle.td_tool.specs.declared.track_files.TrackTexts.{TrackTexts}
 use Rattle.td_tool.specs.declared.track_files.TrackerTexts.{TrackerTexts}
 use Rattle.td_tool.specs.declared.tracking.Asked.{Asked}
-use Rattle.td_tool.specs.declared.tracking.Asked.TheVariants.{Report, Waves}
+use Rattle.td_tool.specs.declared.tracking.Asked.TheVariants.{Listed, Planned}
+use Rattle.td_tool.specs.declared.tracking.Listing.{Listing}
+use Rattle.td_tool.specs.declared.tracking.Listing.TheVariants.{Report, Waves}
 use Rattle.td_tool.specs.declared.ending.Ending.{Ending}
 use Rattle.td_tool.specs.declared.ending.Ending.TheVariants.{NoMemory}
 use Rattle.td_tool.specs.Tracks.{AreReadable, AreRefused, AreTextsOf, EndsTold, FailsAt}
-use Rattle.td_tool.specs.Tracks.{IsPatternRefused, MayFail, OneFile, Saying, TextsEndSo}
+use Rattle.td_tool.specs.Tracks.{IsPatternRefused, IsPlanWith, MayFail, OneFile, Saying, TextsEndSo}
 use Rattle.td_tool.specs.Tracks.{TextsSayIt, Texts, TrackFiles, track_files}
+
+-- what a list of a transition says
+abbrev pub listed_of : Listing → Saying
+listed_of (Report shown chunk) = IsReportOf shown
+listed_of Waves = IsWaves
 
 -- what the text that is asked for says
 abbrev pub saying_of : Asked → Saying
-saying_of (Report shown chunk) = IsReportOf shown
-saying_of Waves = IsWaves
+saying_of (Listed listing) = listed_of listing
+saying_of (Planned words) = IsPlanWith (seen_words words)
+
+-- a message and a suite that lines can have
+abbrev pub words_given : LineWords → Words
+words_given w = record { message = string_bytes w.message; suite = string_bytes w.suite }
 
 -- the files of these paths
 abbrev pub files_at : (List ℕ → Option (List ℕ)) → (List ℕ → TextFault → Bool) → TrackPaths
@@ -87,6 +104,15 @@ OrMemory Ends ending = Ends ending ⊎ (ending ≡ NoMemory)
 abbrev pub GivenSays : Saying → Contents → Option Table → Tracking → List ℕ → Type 0
 GivenSays Says c None t text = (rows : Table) × AreOpened c rows × Says c t rows text
 GivenSays Says c (Some rows) t text = Says c t rows text
+
+-- these rows are looked at: those that are given, else all with which a desk opens over the archive
+abbrev pub AreLookedAt : Contents → Option Table → Table → Type 0
+AreLookedAt c None rows = AreOpened c rows
+AreLookedAt c (Some given) rows = rows ≡ given
+
+-- this is what some texts say
+abbrev pub WasOpened : Opened → Type 0
+WasOpened o = (x : inputs.Texts) × IsOpened x o
 
 -- ---- 2. by the texts
 

@@ -1,4 +1,4 @@
--- What `track` and `waves` leave on standard output, as they end. This project's own.
+-- What `track`, `waves` and `plan` leave on standard output, as they end. This project's own.
 use Rattle.std.specs.Prelude.{◌≡◌, ◌⊎◌, ℕ, Bool, true, List, [], length, Option, Some, None}
 use Rattle.std.specs.Prelude.{option_map}
 use Rattle.std.specs.Io.KnownBytes.{Appends, Keeps}
@@ -6,6 +6,9 @@ use Rattle.td_bytes.specs.Pieces.{AppendsPrefix}
 use Rattle.td_bytes.specs.declared.text.TextFault.{TextFault}
 use Rattle.td_rows.specs.Table.{Table}
 use Rattle.td_indices.specs.Archive.{Contents}
+use Rattle.td_plan.specs.Lines.{Words}
+use Rattle.td_plan.specs.Plan.{IsPlan}
+use Rattle.td_plan.specs.Premises.{Premises}
 use Rattle.td_query.specs.TrackerFaults as tracker_file
 use Rattle.td_query.specs.TrackerGrammar.{said_in}
 use Rattle.td_query.specs.Tracking.{IsTracker, Tracking}
@@ -111,6 +114,14 @@ IsUnread files ending = IsUnreadBy (FailsAt files) ending
 -- what a tracker says over an archive and rows, as a text
 abbrev pub Saying : Type 1
 Saying = Contents → Tracking → Table → List ℕ → Type 0
+
+-- what a plan is made of
+abbrev pub premises_of : Contents → Tracking → Table → Premises
+premises_of c t rows = record { archive = c; tracker = t; rows = rows }
+
+-- the plan of a tracker over an archive and rows, with this message and this suite
+abbrev pub IsPlanWith : Words → Saying
+IsPlanWith words c t rows text = IsPlan words (premises_of c t rows) text
 
 -- the text that a tracker says over these rows
 abbrev pub TrackerSays : Saying → Contents → Table → List ℕ → List ℕ → Type 0

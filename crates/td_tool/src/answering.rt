@@ -9,29 +9,31 @@ ghost use Rattle.td_report.specs.Transition.{IsReportOf, IsWaves};
 ghost use Rattle.td_words.specs.CommandLine.{AskFor, AskForCheck, AskForRun, AskForTrack};
 ghost use Rattle.td_words.specs.CommandLine.{AskForWaves, RunWords, TrackWords, is_explained};
 ghost use Rattle.td_words.specs.CommandLine.{options_of};
+ghost use Rattle.td_words.specs.PlanWords.{AskForPlan, PlanWords};
 ghost use Rattle.td_tool.specs.Ends.{Ends};
 ghost use Rattle.td_tool.specs.Checks.{Checks, files_of};
 ghost use Rattle.td_tool.specs.Explained.{IsKept, IsTextKept, archive_paths, known_at};
-ghost use Rattle.td_tool.specs.Explained.{known_input, known_of_request, run_paths, track_paths};
-ghost use Rattle.td_tool.specs.Explained.{waves_paths};
+ghost use Rattle.td_tool.specs.Explained.{known_input, known_of_request, plan_paths, run_paths};
+ghost use Rattle.td_tool.specs.Explained.{track_paths, waves_paths};
 ghost use Rattle.td_tool.specs.Limits.{input_limit};
 ghost use Rattle.td_tool.specs.Ran.{Ran};
 ghost use Rattle.td_tool.specs.Program.{EndsFor, HasNoBuilders, IsTold, LeavesInput, OnlyIfAsked};
 ghost use Rattle.td_tool.specs.Program.{RanFor};
 ghost use Rattle.td_tool.specs.Program.{TellsFault, TellsUnread, are_explained, fault_text};
-ghost use Rattle.td_tool.specs.Program.{files_asked, unread_text};
+ghost use Rattle.td_tool.specs.Program.{files_asked, plan_files, unread_text, words_asked};
 ghost use Rattle.td_tool.specs.Runs.{EndsRun, run_files_asked};
 ghost use Rattle.td_tool.specs.Streams.{DueTo, IsDue};
-ghost use Rattle.td_tool.specs.Tracks.{EndsSo, track_files};
+ghost use Rattle.td_tool.specs.Tracks.{EndsSo, IsPlanWith, track_files};
 
 use crate::checking::check;
 use crate::ending::{Ended, Ending};
 use crate::explaining::finish;
+use crate::planning::plan;
 use crate::running::{run_alone, run_beside};
 use crate::simulation::read_and_play;
 use crate::texts::Texts;
 use crate::track_files::TrackPaths;
-use crate::tracking::{Asked, track};
+use crate::tracking::{Asked, Listing, track};
 use std::alloc::Global;
 use std::io;
 use std::io::ErrorKind;
@@ -110,11 +112,15 @@ pub fn crew_of(request: &Request) -> Option<&RunRequest>
             }
             Some(run)
         }
-        Request::Simulate | Request::Check(_) | Request::Track(_) | Request::Waves { .. } => None,
+        Request::Simulate
+        | Request::Check(_)
+        | Request::Track(_)
+        | Request::Waves { .. }
+        | Request::Plan(_) => None,
     }
 }
 
-// Does what was asked for, where no builders are.
+// Does what was asked for without builders.
 fn do_alone<T: Texts + Sync, R: Reader, W: Writer>(
     rt: &(impl Threads + Sync),
     alloc: Global,
@@ -145,7 +151,7 @@ fn do_alone<T: Texts + Sync, R: Reader, W: Writer>(
                 state: &request.state,
                 tracker: &request.tracker,
             };
-            let asked = Asked::Report(request.shown, request.chunk);
+            let asked = Asked::Listed(Listing::Report(request.shown, request.chunk));
             track(rt, alloc, texts, &paths, asked, output).alone()
         }
         Request::Waves { files, tracker } => {
@@ -154,8 +160,10 @@ fn do_alone<T: Texts + Sync, R: Reader, W: Writer>(
                 state: &None,
                 tracker,
             };
-            track(rt, alloc, texts, &paths, Asked::Waves, output).alone()
+            let asked = Asked::Listed(Listing::Waves);
+            track(rt, alloc, texts, &paths, asked, output).alone()
         }
+        Request::Plan(request) => plan(rt, alloc, texts, request, output).alone(),
         Request::Run(request) => run_alone(rt, alloc, texts, request, reader, output).alone(),
     }
 }
@@ -308,6 +316,14 @@ fn answer<T: Texts + Sync, R: Reader, W: Writer, E: Writer>(
         (is_explained (options_of (map string_bytes words.now)))
         (known_at (T.bytes texts.now) (waves_paths archs packages sources tracker))
         (E.contents faults.old) (E.contents faults.new) result }
+    ensures plan { (w : PlanWords) → AskForPlan (map string_bytes words.now) w
+        → Ran (DueTo (R.can_fail reader.old) (W.can_fail output.old)
+        (EndsSo (IsPlanWith (words_asked w))
+        (plan_files (T.bytes texts.now) (T.can_fail texts.now) w)
+        (W.contents output.old) (W.contents output.new)))
+        (is_explained (options_of (map string_bytes words.now)))
+        (known_at (T.bytes texts.now) (plan_paths w))
+        (E.contents faults.old) (E.contents faults.new) result }
     ensures run { (w : RunWords) → AskForRun (map string_bytes words.now) w
         → Ran (DueTo (R.can_fail reader.old) (W.can_fail output.old)
         (EndsRun (run_files_asked (T.bytes texts.now) (T.can_fail texts.now) w) w.suite
@@ -376,6 +392,15 @@ pub fn tool<T: Texts + Sync, R: Reader, W: Writer, E: Writer>(
         (W.contents output.old) (W.contents output.new)))
         (are_explained words)
         (known_at (T.bytes texts.now) (waves_paths archs packages sources tracker))
+        (E.contents faults.old) (E.contents faults.new) result }
+    // What asks for a plan is answered by it.
+    ensures plan { (w : PlanWords) → IsOkAnd words (λ given.
+        AskForPlan (map string_bytes given.items) w)
+        → Ran (DueTo (R.can_fail reader.old) (W.can_fail output.old)
+        (EndsSo (IsPlanWith (words_asked w))
+        (plan_files (T.bytes texts.now) (T.can_fail texts.now) w)
+        (W.contents output.old) (W.contents output.new)))
+        (are_explained words) (known_at (T.bytes texts.now) (plan_paths w))
         (E.contents faults.old) (E.contents faults.new) result }
     // What asks for a run is answered by it.
     ensures run { (w : RunWords) → IsOkAnd words (λ given.

@@ -66,6 +66,11 @@ fn path_of(request: &Request, role: Role) -> Option<&String>
             Role::Tracker => Some(tracker),
             _ => archive_path(role, files),
         },
+        Request::Plan(request) => match role {
+            Role::State => request.state.as_ref(),
+            Role::Tracker => Some(&request.tracker),
+            _ => archive_path(role, &request.files),
+        },
         Request::Run(request) => match role {
             Role::State => request.state.as_ref(),
             Role::Tracker => request.tracker.as_ref(),

@@ -3,9 +3,9 @@
 //! Start at `tool`: it does what the words ask for, and may wait if that is a run with builders.
 //! `answer_alone` does all else, `simulate` is that subcommand by itself; these wait for nobody.
 //! `Texts` is where `tool` finds files. Its subcommands are `simulation`, `checking`, `tracking`
-//! for the two that read a tracker, and `running`. `td_simulate` reads and plays a simulation,
-//! `td_indices` reads indices, `td_script` answers a script, and `td_words` knows what the words
-//! ask for.
+//! for those that read a tracker (`planning` is one of them), and `running`. `td_simulate` reads and
+//! plays a simulation, `td_indices` reads indices, `td_plan` makes a plan, `td_script` answers a
+//! script, and `td_words` knows what the words ask for.
 //! Promised: what is written is the answer to what was read, and nothing if that is refused; a
 //! write that fails leaves a front of it; the status and the line on standard error say which
 //! (`specs/Ends.antt`, `specs/Checks.antt`, `specs/Tracks.antt`, `specs/Runs.antt`); and what
@@ -22,6 +22,8 @@ mod explaining;
 mod file_texts;
 mod input_fault;
 mod places;
+mod plan_text;
+mod planning;
 mod run_files;
 mod running;
 mod simulation;

@@ -1,4 +1,4 @@
-//! The two subcommands that read a tracker: `track` and `waves`.
+//! The three subcommands that read a tracker: `track`, `waves` and `plan`.
 ghost use Rattle.std.specs.Prelude.{◌≡◌, ◌≤◌, None, Ok, Err, IfOk, IfErr, IfSome, true, length};
 ghost use Rattle.std.specs.Prelude.{string_bytes};
 ghost use Rattle.std.specs.Result.{ForOk};
@@ -9,13 +9,14 @@ ghost use Rattle.td_report.specs.TransitionView as of;
 ghost use Rattle.td_tool.specs.CheckInside.{FileUnread};
 ghost use Rattle.td_tool.specs.Limits.{file_limit};
 ghost use Rattle.td_tool.specs.Tracks.{EndsSo, as_script};
-ghost use Rattle.td_tool.specs.TrackInside.{GivenSays, IsTableWithin, Tells, TellsTexts, files_at};
-ghost use Rattle.td_tool.specs.TrackInside.{saying_of, texts_of, texts_over};
+ghost use Rattle.td_tool.specs.TrackInside.{GivenSays, IsTableWithin, Tells, TellsTexts, WasOpened};
+ghost use Rattle.td_tool.specs.TrackInside.{files_at, listed_of, saying_of, texts_of, texts_over};
 
 use crate::checking::write;
 use crate::early_texts::EarlyTexts;
 use crate::ending::{Ending, ending_of_file, ending_of_opening};
 use crate::file_texts::FileFault;
+use crate::plan_text::opened_plan;
 use crate::texts::Texts;
 use crate::track_files::{TrackPaths, TrackTexts, TrackerTexts, read_track_files};
 use std::alloc::{AllocError, Global};
@@ -24,17 +25,27 @@ use std::thread::Threads;
 use td_bytes::Writer;
 use td_indices::{Archive, IndexText};
 use td_inputs::{InputTexts, Opened, given_text, open_texts};
+use td_plan::Words;
 use td_query::Tracker;
 use td_report::{Shown, Transition};
 use td_rows::Rows;
 
-/// What is asked of a tracker.
+/// A list of what a transition has.
 #[derive(Clone, Copy, Drop)]
-pub enum Asked {
-    /// The report with these rows, by chunks of this many rows if that is given.
+pub enum Listing {
+    /// The report with these rows, by chunks of so many rows if that is given.
     Report(Shown, Option<usize>),
     /// The levels of the affected sources.
     Waves,
+}
+
+/// What is asked of a tracker.
+#[derive(Clone, Copy, Drop)]
+pub enum Asked<'w> {
+    /// A list over its transition.
+    Listed(Listing),
+    /// The plan, whose lines have this message and this suite.
+    Planned(Words<'w>),
 }
 
 // The report with these rows, by chunks if they are given. A chunk has a row at least.
@@ -57,22 +68,22 @@ fn reported(
     }
 }
 
-// The text that is asked for.
-fn told(
+// The list.
+fn listed(
     rt: &(impl Threads + Sync),
     alloc: Global,
     transition: &Transition<'_, '_, '_, '_>,
     rows: &Rows,
-    asked: Asked,
+    listing: Listing,
 ) -> Result<String, AllocError>
     requires { of.IsMade transition.now }
     ensures { IfOk result (λ text.
-        saying_of asked (of.contents_of transition.now) (of.tracking_of transition.now) rows.now
+        listed_of listing (of.contents_of transition.now) (of.tracking_of transition.now) rows.now
         (string_bytes text)) }
 {
-    match asked {
-        Asked::Report(shown, chunk) => reported(rt, alloc, transition, rows, shown, chunk),
-        Asked::Waves => transition.waves(alloc, rows),
+    match listing {
+        Listing::Report(shown, chunk) => reported(rt, alloc, transition, rows, shown, chunk),
+        Listing::Waves => transition.waves(alloc, rows),
     }
 }
 
@@ -87,7 +98,7 @@ fn or_no_memory<A: Drop>(made: Result<A, AllocError>) -> Result<A, Ending>
     }
 }
 
-// What is asked of a text's tracker over an archive and these rows.
+// What is listed of a text's tracker over an archive and these rows.
 fn transition_says(
     rt: &(impl Threads + Sync),
     alloc: Global,
@@ -95,17 +106,17 @@ fn transition_says(
     rows: &Rows,
     tracker: &Tracker<'_>,
     text: &str,
-    asked: Asked,
+    listing: Listing,
 ) -> Result<String, AllocError>
     requires { IsTracker text.now (tracking tracker.now) }
     ensures { IfOk result (λ said.
-        saying_of asked archive.now (tracking tracker.now) rows.now (string_bytes said)) }
+        listed_of listing archive.now (tracking tracker.now) rows.now (string_bytes said)) }
 {
     let transition = Transition::of(rt, alloc, archive, tracker, text)?;
-    told(rt, alloc, &transition, rows, asked)
+    listed(rt, alloc, &transition, rows, listing)
 }
 
-// What is asked, over the rows with which a desk opens over the archive: those of the sources that
+// What is listed over the rows with which a desk opens over the archive: those of the sources that
 // aren't affected say nothing, and aren't made.
 fn opening_says(
     rt: &(impl Threads + Sync),
@@ -113,28 +124,28 @@ fn opening_says(
     archive: &Archive<'_, '_>,
     tracker: &Tracker<'_>,
     text: &str,
-    asked: Asked,
+    listing: Listing,
 ) -> Result<String, AllocError>
     requires { IsTracker text.now (tracking tracker.now) }
     ensures { IfOk result (λ said.
-        GivenSays (saying_of asked) archive.now None (tracking tracker.now)
+        GivenSays (listed_of listing) archive.now None (tracking tracker.now)
         (string_bytes said)) }
 {
     let (transition, rows) = Transition::with_opening_rows(rt, alloc, archive, tracker, text)?;
-    told(rt, alloc, &transition, &rows, asked)
+    listed(rt, alloc, &transition, &rows, listing)
 }
 
-// What is asked of what was opened. (A tracker is always among it.)
-fn opened_says<R: Threads + Sync>(
+// The list of what was opened. (A tracker is always among it.)
+fn opened_list<R: Threads + Sync>(
     rt: &R,
     alloc: Global,
     opened: Opened<'_, '_, '_, '_, '_>,
-    asked: Asked,
+    listing: Listing,
 ) -> Result<String, AllocError>
     requires { IfSome opened.tracker (λ given.
         IsTracker given.now.text.now (tracking given.now.tracker)) }
     ensures { IfOk result (λ said. IfSome opened.entry.tracker (λ given.
-        GivenSays (saying_of asked) opened.entry.archive.now opened.entry.rows
+        GivenSays (listed_of listing) opened.entry.archive.now opened.entry.rows
         (tracking given.now.tracker) (string_bytes said))) }
 {
     let Opened {
@@ -148,11 +159,31 @@ fn opened_says<R: Threads + Sync>(
     match rows {
         Some(rows) => {
             let tracker = &given.tracker;
-            let said = transition_says(rt, alloc, archive, &rows, tracker, given.text, asked);
+            let said = transition_says(rt, alloc, archive, &rows, tracker, given.text, listing);
             mem::forget(rows);
             said
         }
-        None => opening_says(rt, alloc, archive, &given.tracker, given.text, asked),
+        None => opening_says(rt, alloc, archive, &given.tracker, given.text, listing),
+    }
+}
+
+// What is asked of what was opened.
+fn opened_says<R: Threads + Sync>(
+    rt: &R,
+    alloc: Global,
+    opened: Opened<'_, '_, '_, '_, '_>,
+    asked: Asked<'_>,
+) -> Result<String, AllocError>
+    requires tracker { IfSome opened.tracker (λ given.
+        IsTracker given.now.text.now (tracking given.now.tracker)) }
+    requires opened { WasOpened opened }
+    ensures { IfOk result (λ said. IfSome opened.entry.tracker (λ given.
+        GivenSays (saying_of asked.entry) opened.entry.archive.now opened.entry.rows
+        (tracking given.now.tracker) (string_bytes said))) }
+{
+    match asked {
+        Asked::Listed(listing) => opened_list(rt, alloc, opened, listing),
+        Asked::Planned(words) => opened_plan(rt, alloc, opened, &words),
     }
 }
 
@@ -181,10 +212,10 @@ fn texts_say<R: Threads + Sync>(
     rt: &R,
     alloc: Global,
     texts: TrackTexts,
-    asked: Asked,
+    asked: Asked<'_>,
 ) -> Result<String, Ending>
     requires { IsTableWithin texts }
-    ensures { Tells (saying_of asked) (texts_of texts) result }
+    ensures { Tells (saying_of asked.entry) (texts_of texts) result }
 {
     let TrackTexts { indices, over } = texts;
     let EarlyTexts {
@@ -194,10 +225,11 @@ fn texts_say<R: Threads + Sync>(
     } = indices;
     let lent = lend(archs.as_str(), packages, sources, &over);
     let says = move |opened: Opened| -> Result<String, AllocError>
-        requires { IfSome opened.tracker (λ given.
+        requires tracker { IfSome opened.tracker (λ given.
             IsTracker given.now.text.now (tracking given.now.tracker)) }
+        requires opened { WasOpened opened }
         ensures { IfOk result (λ said. IfSome opened.entry.tracker (λ given.
-            GivenSays (saying_of asked) opened.entry.archive.now opened.entry.rows
+            GivenSays (saying_of asked.entry) opened.entry.archive.now opened.entry.rows
             (tracking given.now.tracker) (string_bytes said))) }
     { opened_says(rt, alloc, opened, asked) };
     let said = open_texts(rt, alloc, lent, says);
@@ -212,11 +244,11 @@ fn tell<R: Threads + Sync, W: Writer>(
     rt: &R,
     alloc: Global,
     read: Result<TrackTexts, FileFault>,
-    asked: Asked,
+    asked: Asked<'_>,
     output: &mut W,
 ) -> Ending
     requires { ForOk read IsTableWithin }
-    ensures texts { IfOk read (λ x. TellsTexts (saying_of asked) (texts_of x)
+    ensures texts { IfOk read (λ x. TellsTexts (saying_of asked.entry) (texts_of x)
         (W.contents output.old) (W.contents output.new) result) }
     ensures unread { IfErr read (λ fault.
         FileUnread fault (W.contents output.old) (W.contents output.new) result) }
@@ -236,10 +268,10 @@ pub fn track<R: Threads + Sync, T: Texts + Sync, W: Writer>(
     alloc: Global,
     texts: &T,
     paths: &TrackPaths<'_>,
-    asked: Asked,
+    asked: Asked<'_>,
     output: &mut W,
 ) -> Ending
-    ensures ends { EndsSo (saying_of asked)
+    ensures ends { EndsSo (saying_of asked.entry)
         (files_at (T.bytes texts.now) (T.can_fail texts.now) paths.now)
         (W.contents output.old) (W.contents output.new) result }
     ensures due { result ≡ Ending.CannotWrite → W.can_fail output.old ≡ true }

@@ -1,4 +1,5 @@
 -- What the proofs of this crate share: a file a thing.
 pub mod Asking
+pub mod PlanAsking
 pub mod Apart
 pub mod WordsApart

@@ -12,8 +12,11 @@ use Rattle.clap.proofs.OnLiterals.{clap_on_literals}
 use Rattle.td_words.specs.CommandLine.{AskFor, AskForCheck, AskForTrack, DeskValues, HasFiles}
 use Rattle.td_words.specs.CommandLine.{HasRun, HasTrack, HasTracker, IsPlainPath}
 use Rattle.td_words.specs.CommandLine.{asking_apart, check_shape, chunk_in}
-use Rattle.td_words.specs.CommandLine.{desk, faults_of, name_in, options_of, plain_run, rows_in}
-use Rattle.td_words.specs.CommandLine.{run_shape, track_shape, waves_shape, whole_run}
+use Rattle.td_words.specs.CommandLine.{desk, faults_of, name_in, options_of, plain_run, plan_shape}
+use Rattle.td_words.specs.CommandLine.{rows_in, run_shape, suite_in, track_shape, waves_shape}
+use Rattle.td_words.specs.CommandLine.{whole_run}
+use Rattle.td_words.specs.PlanWords.{AreLineWords, AskForPlan, HasPlan, PlanWords}
+use Rattle.td_words.specs.PlanWords.{SeparatePlanWordsAsk, plan_apart}
 use Rattle.td_words.specs.WordsApart.{AreDeskPlain, ArePlain, IsPlainIfGiven}
 use Rattle.td_words.specs.WordsApart.{SeparatePlainRunWordsAsk, SeparateTrackWordsAsk}
 use Rattle.td_words.specs.WordsApart.{SeparateWavesWordsAsk, SeparateWholeRunWordsAsk}
@@ -22,6 +25,7 @@ use Rattle.td_words.proofs.Asking.{AreOptions, has_run, has_track, has_tracker, 
 use Rattle.td_words.proofs.Asking.{whole_report}
 use Rattle.td_words.proofs.Apart.{Given, Opens, end_fault, ended, level_passes, stepped, walk_is}
 use Rattle.td_words.proofs.Apart.{words_of}
+use Rattle.td_words.proofs.PlanAsking.{ArePlanOptions, has_plan}
 
 -- a subcommand as it is built
 abbrev built_as : List ℕ → Shape → Shape
@@ -149,6 +153,85 @@ asks_for_track_apart program w chunk same all plain pt ps pc =
     subst (AskForTrack (track_apart program w chunk)) (is_whole w all)
     (track_asks program w.archs w.packages w.sources w.tracker w.chunk plain w.state chunk same pt
     ps pc)
+
+-- ---- plan
+
+abbrev built_plan : Shape
+built_plan = built_as (codes "plan") plan_shape
+
+abbrev plan_more : List ℕ → List ℕ → Option (List ℕ) → Option (List ℕ) → List Given
+plan_more t message state suite =
+    (codes "tracker", t) ∷ (codes "message", message)
+    ∷ if_given (codes "state") state (if_given (codes "suite") suite [])
+
+abbrev plan_words_with : List ℕ → List ℕ → List ℕ → List ℕ → List ℕ → List ℕ → Option (List ℕ)
+    → PlanWords
+plan_words_with a p s t message name state = record {
+  archs = a;
+  packages = p;
+  sources = s;
+  tracker = t;
+  state = state;
+  message = message;
+  suite = name;
+}
+
+module _ (program a p s t message name : List ℕ) (h : ArePlain a p s) where
+  abbrev plan_given : Option (List ℕ) → Option (List ℕ) → List Given
+  plan_given state suite = archive_given a p s (plan_more t message state suite)
+
+  abbrev plan_words : Option (List ℕ) → Option (List ℕ) → List (List ℕ)
+  plan_words state suite = plan_apart program (plan_words_with a p s t message name state) suite
+
+  -- the files of an archive are no options, and what follows them decides
+  plan_archive : (more : List Given)
+      → Opens built_plan (ended built_plan (archive_given a p s [])) more
+      → Opens built_plan (walk_from nothing_held) (archive_given a p s more)
+  unfolding clap_on_literals
+  plan_archive more opens = (
+    refl,
+    refl,
+    h.archs_plain,
+    (refl, refl, h.packages_plain, (refl, refl, h.sources_plain, opens)),
+  )
+
+  plan_by : (state suite : Option (List ℕ)) → suite_in suite ≡ name → AreLineWords message name
+      → subcommand_of desk (plan_words state suite)
+      ≡ entered (codes "plan") built_plan (plan_given state suite)
+      → faults_of (plan_words state suite) ≡ faults_in built_plan (plan_given state suite)
+      → end_fault built_plan (plan_given state suite) ≡ []
+      → ArePlanOptions (finished built_plan.rules (ended built_plan (plan_given state suite)).held)
+      a p s t message state suite
+      → Opens built_plan (ended built_plan (archive_given a p s []))
+      (plan_more t message state suite)
+      → AskForPlan (plan_words state suite) (plan_words_with a p s t message name state)
+  plan_by state suite same line_words enters fails ends are opens =
+      asked_by (λ o. HasPlan o (plan_words_with a p s t message name state)) (codes "plan")
+      built_plan (plan_words state suite) (plan_given state suite) enters fails ends
+      (plan_archive (plan_more t message state suite) opens)
+      (has_plan _ (plan_words_with a p s t message name state) suite are same line_words)
+
+  plan_asks : (state suite : Option (List ℕ)) → suite_in suite ≡ name → AreLineWords message name
+      → IsPlainPath t → IsPlainPath message → IsPlainIfGiven state → IsPlainIfGiven suite
+      → AskForPlan (plan_words state suite) (plan_words_with a p s t message name state)
+  unfolding clap_on_literals
+  plan_asks None None same fine pt pm ps pu =
+      plan_by None None same fine refl refl refl (refl, refl, refl, refl, refl, refl, refl)
+      (refl, refl, pt, (refl, refl, pm, tt))
+  plan_asks None (Some u) same fine pt pm ps pu =
+      plan_by None (Some u) same fine refl refl refl (refl, refl, refl, refl, refl, refl, refl)
+      (refl, refl, pt, (refl, refl, pm, (refl, refl, pu, tt)))
+  plan_asks (Some x) None same fine pt pm ps pu =
+      plan_by (Some x) None same fine refl refl refl (refl, refl, refl, refl, refl, refl, refl)
+      (refl, refl, pt, (refl, refl, pm, (refl, refl, ps, tt)))
+  plan_asks (Some x) (Some u) same fine pt pm ps pu =
+      plan_by (Some x) (Some u) same fine refl refl refl (refl, refl, refl, refl, refl, refl, refl)
+      (refl, refl, pt, (refl, refl, pm, (refl, refl, ps, (refl, refl, pu, tt))))
+
+pub asks_for_plan_apart : SeparatePlanWordsAsk
+asks_for_plan_apart program w suite same line_words plain pt pm ps pu =
+    plan_asks program w.archs w.packages w.sources w.tracker w.message w.suite plain w.state suite
+    same line_words pt pm ps pu
 
 -- ---- run
 

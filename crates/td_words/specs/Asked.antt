@@ -7,12 +7,15 @@ use Rattle.td_words.specs.declared.request.Call.{Call}
 use Rattle.td_words.specs.declared.request.ArchivePaths.{ArchivePaths}
 use Rattle.td_words.specs.declared.request.TrackRequest.{TrackRequest}
 use Rattle.td_words.specs.declared.request.RunRequest.{RunRequest}
+use Rattle.td_words.specs.declared.request.PlanRequest.{PlanRequest}
 use Rattle.td_words.specs.declared.request.Request.{Request}
-use Rattle.td_words.specs.declared.request.Request.TheVariants.{Simulate, Check, Track, Waves, Run}
+use Rattle.td_words.specs.declared.request.Request.TheVariants.{Simulate, Check, Track, Waves}
+use Rattle.td_words.specs.declared.request.Request.TheVariants.{Plan, Run}
 use Rattle.td_words.specs.declared.request.WordsFault.{WordsFault}
 use Rattle.td_words.specs.declared.request.WordsFault.TheVariants.{Usage, NoMemory}
 use Rattle.td_words.specs.CommandLine.{HasFiles, HasRun, HasTrack, HasTracker, RunWords, TrackWords}
 use Rattle.td_words.specs.CommandLine.{chunk_in, desk, faults_of, name_in, rows_in}
+use Rattle.td_words.specs.PlanWords.{HasPlan, PlanWords}
 use Rattle.td_words.specs.ShownWords.{shown_said}
 
 -- what a report is asked for with, by the texts that say so
@@ -25,6 +28,18 @@ track_words r = record {
   state = option_map string_bytes r.state;
   shown = r.shown;
   chunk = r.chunk;
+}
+
+-- what a plan is asked for with, by the texts that say so
+abbrev pub plan_words : PlanRequest → PlanWords
+plan_words r = record {
+  archs = string_bytes r.files.archs;
+  packages = string_bytes r.files.packages;
+  sources = string_bytes r.files.sources;
+  tracker = string_bytes r.tracker;
+  state = option_map string_bytes r.state;
+  message = string_bytes r.words.message;
+  suite = string_bytes r.words.suite;
 }
 
 -- what a run is asked for with, by the texts that say so
@@ -47,6 +62,7 @@ pub data RequestWords : Type 0 where
   check_of : (archs packages sources : List ℕ) → RequestWords
   report_of : TrackWords → RequestWords
   waves_of : (archs packages sources tracker : List ℕ) → RequestWords
+  plan_of : PlanWords → RequestWords
   run_of : RunWords → RequestWords
 
 -- the texts of a request
@@ -58,6 +74,7 @@ request_words (Track r) = report_of (track_words r)
 request_words (Waves files tracker) =
     waves_of (string_bytes files.archs) (string_bytes files.packages) (string_bytes files.sources)
     (string_bytes tracker)
+request_words (Plan r) = plan_of (plan_words r)
 request_words (Run r) = run_of (run_words r)
 
 -- a subcommand asks for just this, with its options
@@ -70,6 +87,7 @@ IsGivenBy found (report_of w) =
 IsGivenBy found (waves_of archs packages sources tracker) =
     (name_in found ≡ Some (codes "waves"))
     × HasTracker (rows_in found) archs packages sources tracker
+IsGivenBy found (plan_of w) = (name_in found ≡ Some (codes "plan")) × HasPlan (rows_in found) w
 IsGivenBy found (run_of w) = (name_in found ≡ Some (codes "run")) × HasRun (rows_in found) w
 
 -- the words of a command line ask for just this, and nothing is wrong with them

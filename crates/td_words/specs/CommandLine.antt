@@ -45,7 +45,7 @@ with_archive_rules a =
 abbrev pub check_shape : Shape
 check_shape = (with_explanation (with_archive_rules (new_app (codes "check")))).top
 
--- `track` and `waves` need a tracker too
+-- `track`, `waves` and `plan` need a tracker too
 abbrev pub with_tracker_rules : App → App
 with_tracker_rules a = with_rule (with_archive_rules a) (needed_option (codes "tracker"))
 
@@ -62,6 +62,16 @@ with_report_rules a =
 -- the subcommand `track`
 abbrev pub track_shape : Shape
 track_shape = (with_explanation (with_report_rules (new_app (codes "track")))).top
+
+-- a plan needs a message too, and may be given other rows, and the suite that its lines name
+abbrev pub with_plan_rules : App → App
+with_plan_rules a =
+    with_rule (with_rule (with_rule (with_tracker_rules a) (needed_option (codes "message")))
+    (option_of (codes "state"))) (option_of (codes "suite"))
+
+-- the subcommand `plan`, which needs the files of an archive, a tracker and a message
+abbrev pub plan_shape : Shape
+plan_shape = (with_explanation (with_plan_rules (new_app (codes "plan")))).top
 
 -- `run` may be given rows, a tracker and a suite as well as an archive
 abbrev pub with_desk_rules : App → App
@@ -90,7 +100,8 @@ bare_desk = on_top (λ s. record s { has_version = true; subcommand_required = t
 abbrev pub desk : App
 desk =
     let counting = with_subcommand (with_subcommand bare_desk simulate_shape) check_shape in
-    with_subcommand (with_subcommand (with_subcommand counting track_shape) waves_shape) run_shape
+    let tracking = with_subcommand (with_subcommand counting track_shape) waves_shape in
+    with_subcommand (with_subcommand tracking plan_shape) run_shape
 
 -- the name of the subcommand that was found, if any
 abbrev pub name_in : Option (List ℕ × List Row) → Option (List ℕ)

@@ -1,5 +1,7 @@
 -- What the contracts of this crate cite: a file a thing.
 pub mod ShownWords
 pub mod CommandLine
+pub mod PlanWords
 pub mod Asked
 pub mod WordsApart
+pub mod inner

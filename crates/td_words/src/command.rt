@@ -4,9 +4,10 @@ ghost use Rattle.clap.specs.Simple.{App, Shape, app_of, shape_of, with_rule, wit
 ghost use Rattle.clap.specs.declared.builder.command.Command.TheViews.{out-Command};
 ghost use Rattle.clap.specs.Walk.{rule_of};
 ghost use Rattle.td_words.specs.CommandLine.{bare_desk, check_shape, desk, flag_of, needed_option};
-ghost use Rattle.td_words.specs.CommandLine.{option_of, run_shape, simulate_shape, track_shape};
-ghost use Rattle.td_words.specs.CommandLine.{waves_shape, with_archive_rules, with_crew_rules};
-ghost use Rattle.td_words.specs.CommandLine.{with_desk_rules, with_explanation, with_report_rules};
+ghost use Rattle.td_words.specs.CommandLine.{option_of, plan_shape, run_shape, simulate_shape};
+ghost use Rattle.td_words.specs.CommandLine.{track_shape, waves_shape, with_archive_rules};
+ghost use Rattle.td_words.specs.CommandLine.{with_crew_rules, with_desk_rules, with_explanation};
+ghost use Rattle.td_words.specs.CommandLine.{with_plan_rules, with_report_rules};
 ghost use Rattle.td_words.specs.CommandLine.{with_tracker_rules};
 
 use clap::{Arg, ArgAction, Command};
@@ -147,12 +148,12 @@ fn option<'a>(alloc: Global, name: &'static str, value: &'static str, help: &'st
         .help(help)
 }
 
-// An option that has to be there, with the path of a file.
-fn file<'a>(alloc: Global, name: &'static str, help: &'static str) -> Arg<'a>
+// An option that has to be there, with one value.
+fn needed<'a>(alloc: Global, name: &'static str, value: &'static str, help: &'static str) -> Arg<'a>
     ensures rule { rule_of result ≡ needed_option name.now }
     ensures global { result.global ≡ false }
 {
-    option(alloc, name, "FILE", help).required(true)
+    option(alloc, name, value, help).required(true)
 }
 
 // The command with one more option that may be left out.
@@ -171,6 +172,22 @@ fn with_option<'a>(
     command.arg(option(alloc, name, value, help))
 }
 
+// The command with one more option that has to be there.
+fn with_needed<'a>(
+    alloc: Global,
+    command: Command<'a>,
+    name: &'static str,
+    value: &'static str,
+    help: &'static str,
+) -> Result<Command<'a>, AllocError>
+    ensures app { IfOk result (λ c.
+        app_of c ≡ with_rule (app_of command.entry) (needed_option name.now)) }
+    ensures globals { (out-Command command.entry).has_globals ≡ false
+        → IfOk result (λ c. (out-Command c).has_globals ≡ false) }
+{
+    command.arg(needed(alloc, name, value, help))
+}
+
 // The command with one more file.
 fn with_file<'a>(
     alloc: Global,
@@ -183,7 +200,7 @@ fn with_file<'a>(
     ensures globals { (out-Command command.entry).has_globals ≡ false
         → IfOk result (λ c. (out-Command c).has_globals ≡ false) }
 {
-    command.arg(file(alloc, name, help))
+    with_needed(alloc, command, name, "FILE", help)
 }
 
 // The command with the files of an archive.
@@ -242,6 +259,47 @@ fn track<'a>(alloc: Global) -> Result<Command<'a>, AllocError>
         .about("Report how far a transition has come, row by row")
         .after_help(TRACK);
     let command = with_report(alloc, command)?;
+    explained(alloc, command)
+}
+
+const PLAN: &str = "\
+The files are read whole. Standard output has a script: lines that rebuild what the tracker calls
+bad or partial, each source under one number, in an order in which they can be built, and that say
+what each row waits for:
+  # tracker TITLE
+  # step K
+  nmu N SOURCE_VERSION . ARCH.. . SUITE . -m \"TEXT\"
+  dw SOURCE_VERSION . ARCH.. . SUITE . -m \"PACKAGE (>= VERSION)\"
+  # not planned: KEY STATUS STATE NUMBER REASON
+Give them all to one `run` or desk: between an `nmu` line and its `dw` line a builder could claim
+the row. TEXT is one line; it stands in single quotes where it has a double quote, a dollar, a
+backquote or a backslash, and then it has no single quote.
+Nothing is printed where a file isn't of its form; standard error names it.
+
+docs/FORMATS.md says exactly what is read and printed.";
+
+// The same command with the files of a tracker, and what a plan's lines say besides.
+fn with_plan<'a>(alloc: Global, command: Command<'a>) -> Result<Command<'a>, AllocError>
+    ensures app { IfOk result (λ c. app_of c ≡ with_plan_rules (app_of command.entry)) }
+    ensures globals { (out-Command command.entry).has_globals ≡ false
+        → IfOk result (λ c. (out-Command c).has_globals ≡ false) }
+{
+    let command = with_tracker(alloc, command)?;
+    let text = "Why the rows are rebuilt: the text of each `nmu` line";
+    let command = with_needed(alloc, command, "message", "TEXT", text)?;
+    let suite = "The suite that the lines name; unstable where none is given";
+    let command = with_option(alloc, command, "state", "FILE", STATE)?;
+    with_option(alloc, command, "suite", "NAME", suite)
+}
+
+fn plan<'a>(alloc: Global) -> Result<Command<'a>, AllocError>
+    ensures shape { IfOk result (λ c. shape_of c ≡ plan_shape) }
+    ensures globals { IfOk result (λ c. (out-Command c).has_globals ≡ false) }
+{
+    let command = Command::new(alloc, "plan")
+        .about("Write the lines that rebuild a transition, step by step, for a script or a desk")
+        .after_help(PLAN);
+    let command = with_plan(alloc, command)?;
     explained(alloc, command)
 }
 
@@ -338,5 +396,6 @@ pub(crate) fn command<'a>(alloc: Global) -> Result<Command<'a>, AllocError>
     let whole = with_part(whole, check(alloc));
     let whole = with_part(whole, track(alloc));
     let whole = with_part(whole, waves(alloc));
+    let whole = with_part(whole, plan(alloc));
     with_part(whole, run(alloc))
 }

@@ -4,6 +4,7 @@ ghost use Rattle.td_words.specs.CommandLine.{RunWordsExplain, SeparateWordsAsk, 
 ghost use Rattle.td_words.specs.CommandLine.{TrackWordsAsk, TrackWordsExplain, WavesWordsAsk};
 ghost use Rattle.td_words.specs.CommandLine.{WavesWordsExplain, WholeRunWordsAsk};
 ghost use Rattle.td_words.specs.CommandLine.{ShownWordsAsk};
+ghost use Rattle.td_words.specs.PlanWords.{PlanWordsAsk, PlanWordsExplain, SeparatePlanWordsAsk};
 ghost use Rattle.td_words.specs.WordsApart.{SeparatePlainRunWordsAsk, SeparateTrackWordsAsk};
 ghost use Rattle.td_words.specs.WordsApart.{SeparateWavesWordsAsk, SeparateWholeRunWordsAsk};
 
@@ -36,6 +37,14 @@ pub fn words_of_waves_ask_for_them()
     ensures joined { WavesWordsAsk }
     ensures separate { SeparateWavesWordsAsk }
     ensures explained { WavesWordsExplain }
+{}
+
+/// The words of a plan ask for it, with other rows or without, and with a suite or without, if lines
+/// can have the message and the suite.
+pub fn words_of_a_plan_ask_for_it()
+    ensures joined { PlanWordsAsk }
+    ensures separate { SeparatePlanWordsAsk }
+    ensures explained { PlanWordsExplain }
 {}
 
 /// The words of a run ask for it: over only an archive, and with everything that may be given.

@@ -5,17 +5,23 @@
 //! out, and for an explanation if and only if `--explain` is given. Words in which `clap` finds a
 //! fault ask for nothing (`specs/CommandLine.antt`, over `clap`'s account of a command line). What
 //! the program says of other words, help included, is only tested, except for a wrong number of
-//! `--chunk` or `--builders`, and a wrong list of `--only`.
+//! `--chunk` or `--builders`, a wrong list of `--only`, and a message or a suite that no line of a
+//! plan can have.
 #![tactic(auto)]
 
 mod command;
 mod laws;
+mod line_words;
+mod plan_words;
 mod request;
 mod run_words;
 mod track_words;
 
 pub use laws::{
-    words_of_a_check_ask_for_it, words_of_a_run_ask_for_it, words_of_a_simulation_ask_for_it,
-    words_of_a_track_ask_for_it, words_of_waves_ask_for_them,
+    words_of_a_check_ask_for_it, words_of_a_plan_ask_for_it, words_of_a_run_ask_for_it,
+    words_of_a_simulation_ask_for_it, words_of_a_track_ask_for_it, words_of_waves_ask_for_them,
 };
-pub use request::{ArchivePaths, Call, Request, RunRequest, TrackRequest, WordsFault, read_words};
+pub use line_words::LineWords;
+pub use request::{
+    ArchivePaths, Call, PlanRequest, Request, RunRequest, TrackRequest, WordsFault, read_words,
+};

@@ -10,11 +10,14 @@ ghost use Rattle.td_words.specs.CommandLine.{AskForWaves, HasFiles, HasRun, HasT
 ghost use Rattle.td_words.specs.CommandLine.{RunWords, TrackWords, is_explained, name_in};
 ghost use Rattle.td_words.specs.CommandLine.{options_of, rows_in};
 ghost use Rattle.td_words.specs.Asked.{AreFilesIn, AreFilesOf, Asks, IsGivenBy, IsUsage, call_as};
-ghost use Rattle.td_words.specs.Asked.{builders_said, check_of, report_of, request_words, run_of};
-ghost use Rattle.td_words.specs.Asked.{track_said, waves_of};
+ghost use Rattle.td_words.specs.Asked.{builders_said, check_of, plan_of, report_of, request_words};
+ghost use Rattle.td_words.specs.Asked.{run_of, track_said, waves_of};
+ghost use Rattle.td_words.specs.PlanWords.{AskForPlan, HasPlan, PlanWords, line_words_said};
 ghost use Rattle.td_words.specs.ShownWords.{is_set as is_set_in};
 
 use crate::command::command;
+use crate::line_words::LineWords;
+use crate::plan_words::plan_in;
 use crate::run_words::run_in;
 use crate::track_words::track_in;
 use clap::error::ErrorKind;
@@ -40,6 +43,17 @@ pub struct TrackRequest {
     /// Which rows have a line.
     pub shown: Shown,
     pub chunk: Option<usize>,
+}
+
+/// A plan over these files.
+#[derive(Drop)]
+pub struct PlanRequest {
+    pub files: ArchivePaths,
+    pub tracker: String,
+    /// Rows to use instead of those that the indices say.
+    pub state: Option<String>,
+    /// What its lines say besides.
+    pub words: LineWords,
 }
 
 /// A run over these files.
@@ -72,6 +86,7 @@ pub enum Request {
         files: ArchivePaths,
         tracker: String,
     },
+    Plan(PlanRequest),
     /// The script is on standard input.
     Run(RunRequest),
 }
@@ -238,6 +253,11 @@ fn request_in(alloc: Global, matches: &ArgMatches<'_>) -> Result<Request, WordsF
         → HasTracker (rows_in (subcommand_rows_of matches.now)) archs packages sources tracker
         → MatchResult result (λ r. request_words r ≡ waves_of archs packages sources tracker)
         (λ e. e ≡ WordsFault.NoMemory) }
+    ensures plan { (w : PlanWords)
+        → name_in (subcommand_rows_of matches.now) ≡ Some (codes "plan")
+        → HasPlan (rows_in (subcommand_rows_of matches.now)) w
+        → MatchResult result (λ r. request_words r ≡ plan_of w)
+        (λ e. e ≡ WordsFault.NoMemory) }
     ensures run { (w : RunWords)
         → name_in (subcommand_rows_of matches.now) ≡ Some (codes "run")
         → HasRun (rows_in (subcommand_rows_of matches.now)) w
@@ -248,6 +268,11 @@ fn request_in(alloc: Global, matches: &ArgMatches<'_>) -> Result<Request, WordsF
         → HasTracker (rows_in (subcommand_rows_of matches.now)) archs packages sources tracker
         → IfErr result (λ e.
         IsUsage e (track_said (rows_in (subcommand_rows_of matches.now)))) }
+    ensures plan_said { (archs packages sources tracker message : List ℕ)
+        → name_in (subcommand_rows_of matches.now) ≡ Some (codes "plan")
+        → HasTracker (rows_in (subcommand_rows_of matches.now)) archs packages sources tracker
+        → first_of (codes "message") (rows_in (subcommand_rows_of matches.now)) ≡ Some message
+        → IfErr result (λ e. IsUsage e (line_words_said message)) }
     ensures run_said { (archs packages sources : List ℕ)
         → name_in (subcommand_rows_of matches.now) ≡ Some (codes "run")
         → HasFiles (rows_in (subcommand_rows_of matches.now)) archs packages sources
@@ -261,6 +286,7 @@ fn request_in(alloc: Global, matches: &ArgMatches<'_>) -> Result<Request, WordsF
         Some((name, options)) if name == "track" => track_in(alloc, options),
         Some((name, options)) if name == "waves" => waves_in(alloc, options),
         Some((name, options)) if name == "run" => run_in(alloc, options),
+        Some((name, options)) if name == "plan" => plan_in(alloc, options),
         _ => Err(WordsFault::Usage(String::new(alloc))),
     }
 }
@@ -310,6 +336,16 @@ pub fn read_words(alloc: Global, words: &[String]) -> Result<Call, WordsFault>
         → MatchResult result (λ c. request_words c.request
         ≡ waves_of archs packages sources tracker)
         (λ e. e ≡ WordsFault.NoMemory) }
+    // So are words that ask for a plan.
+    ensures plan { (w : PlanWords) → AskForPlan (map string_bytes words.now) w
+        → MatchResult result (λ c. request_words c.request ≡ plan_of w)
+        (λ e. e ≡ WordsFault.NoMemory) }
+    // Where only the message or the suite is wrong, that is said.
+    ensures plan_said { (archs packages sources tracker message : List ℕ)
+        → AskFor (codes "plan") (map string_bytes words.now)
+        → HasTracker (options_of (map string_bytes words.now)) archs packages sources tracker
+        → first_of (codes "message") (options_of (map string_bytes words.now)) ≡ Some message
+        → IfErr result (λ e. IsUsage e (line_words_said message)) }
     // And words that ask for a run.
     ensures run { (w : RunWords) → AskForRun (map string_bytes words.now) w
         → MatchResult result (λ c. request_words c.request ≡ run_of w)

@@ -36,8 +36,8 @@ fn builders_in(matches: &ArgMatches<'_>) -> Option<usize>
     }
 }
 
-// The suite that is named, or the usual one.
-fn suite_in(alloc: Global, matches: &ArgMatches<'_>) -> Result<String, WordsFault>
+/// The suite that is named, or the usual one.
+pub(crate) fn suite_in(alloc: Global, matches: &ArgMatches<'_>) -> Result<String, WordsFault>
     ensures text { IfOk result (λ s.
         string_bytes s ≡ suite_in_of (first_of (codes "suite") (rows_of (found_of matches.now)))) }
     ensures memory { IfErr result (λ e. e ≡ WordsFault.NoMemory) }

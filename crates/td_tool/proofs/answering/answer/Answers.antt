@@ -1,7 +1,8 @@
 -- `answer`: what it answers.
 use Rattle.std.proofs.Common.{map, string_bytes}
 use Rattle.td_words.specs.CommandLine.{is_explained, options_of}
-use Rattle.td_tool.proofs.Asks.{simulated, checked, tracked, waved, ran_script, only_asked}
+use Rattle.td_tool.proofs.Asks.{simulated, checked, tracked, waved, planned, ran_script}
+use Rattle.td_tool.proofs.Asks.{only_asked}
 use Rattle.td_tool.proofs.answering.answer.Goals as goal
 
 pub returns : goal.returns
@@ -41,6 +42,10 @@ returns g c =
           explained archs packages
           sources tracker ran told flag
           (c.read_words.ensures.waves archs packages sources tracker asks);
+      plan =
+          λ w asks.
+          planned words known left bytes can_fail reads writes old new before said status asked
+          explained w ran told flag (c.read_words.ensures.plan w asks);
       run =
           λ w asks. ran_script words known left bytes can_fail reads writes old new before said
           status asked
@@ -48,5 +53,6 @@ returns g c =
       others =
           only_asked words known left bytes can_fail reads writes old new before said status asked
           ran told flag c.act.ensures.input c.read_words.ensures.only
-          c.read_words.ensures.track_said c.read_words.ensures.run_said;
+          c.read_words.ensures.track_said c.read_words.ensures.plan_said
+          c.read_words.ensures.run_said;
     }

@@ -69,6 +69,27 @@ pub returns-in-Waves-clause-short : goal.returns-in-Waves-clause-short
 returns-in-Waves-clause-short g c =
     short_alone _ c.track-in-Waves.result c.alone-in-Waves.result c.alone-in-Waves.ensures
 
+pub returns-in-Plan-clause-ends : goal.returns-in-Plan-clause-ends
+returns-in-Plan-clause-ends g c =
+    let Says : Request → Ending → Type 0 =
+    λ q ending. EndsFor q (g.R.Read.remaining c.args.reader.now)
+    (g.R.Read.remaining c.args.reader.now) (g.T.Texts.bytes c.args.texts.now)
+    (g.T.Texts.can_fail c.args.texts.now) (g.W.Write.contents c.args.output.now)
+    (g.W.Write.contents c.plan.new.output) ending in
+    ends_alone (Says c.args.request.now) c.plan.result c.alone-in-Plan.result
+    c.alone-in-Plan.ensures
+    (subst (λ q. Says q c.plan.result) (sym c.in-Plan.is) c.plan.ensures.ends)
+
+pub returns-in-Plan-clause-kept : goal.returns-in-Plan-clause-kept
+returns-in-Plan-clause-kept g c =
+    kept_alone (known_of_request c.args.request.now (g.R.Read.remaining c.args.reader.now)
+    (g.T.Texts.bytes c.args.texts.now)) c.plan.result c.alone-in-Plan.result
+    c.alone-in-Plan.ensures
+
+pub returns-in-Plan-clause-short : goal.returns-in-Plan-clause-short
+returns-in-Plan-clause-short g c =
+    short_alone _ c.plan.result c.alone-in-Plan.result c.alone-in-Plan.ensures
+
 pub returns-in-Run-clause-ends : goal.returns-in-Run-clause-ends
 returns-in-Run-clause-ends g c =
     let Says : Request → Ending → Type 0 =
@@ -125,6 +146,14 @@ returns-in-Waves-clause-due g c =
     (track_due input output _ _ _ _ c.track-in-Waves.result c.track-in-Waves.ensures.ends
     c.track-in-Waves.ensures.due)
 
+pub returns-in-Plan-clause-due : goal.returns-in-Plan-clause-due
+returns-in-Plan-clause-due g c =
+    let input = g.R.Reader.can_fail c.args.reader.now in
+    let output = g.W.Writer.can_fail c.args.output.now in
+    ends_alone (IsDue input output) c.plan.result c.alone-in-Plan.result
+    c.alone-in-Plan.ensures
+    (track_due input output _ _ _ _ c.plan.result c.plan.ensures.ends c.plan.ensures.due)
+
 pub returns-in-Run-clause-due : goal.returns-in-Run-clause-due
 returns-in-Run-clause-due g c =
     let input = g.R.Reader.can_fail c.args.reader.now in
@@ -146,6 +175,11 @@ pub returns-in-Waves-clause-steady : goal.returns-in-Waves-clause-steady
 returns-in-Waves-clause-steady g c =
     steady_alone (g.R.Reader.can_fail c.args.reader.now ≡ g.R.Reader.can_fail c.args.reader.now)
     c.track-in-Waves.result c.alone-in-Waves.result c.alone-in-Waves.ensures
+
+pub returns-in-Plan-clause-steady : goal.returns-in-Plan-clause-steady
+returns-in-Plan-clause-steady g c =
+    steady_alone (g.R.Reader.can_fail c.args.reader.now ≡ g.R.Reader.can_fail c.args.reader.now)
+    c.plan.result c.alone-in-Plan.result c.alone-in-Plan.ensures
 
 pub returns-in-Run-clause-steady : goal.returns-in-Run-clause-steady
 returns-in-Run-clause-steady g c =

@@ -2,15 +2,16 @@
 use Rattle.std.proofs.Common.{None, IfOk, codes, map, string_bytes, sym, subst}
 use Rattle.td_report.specs.Transition.{IsReportOf, IsWaves}
 use Rattle.td_words.specs.CommandLine.{AskFor, AskForCheck, AskForRun, AskForTrack, AskForWaves}
+use Rattle.td_words.specs.PlanWords.{AskForPlan}
 use Rattle.td_tool.specs.Checks.{Checks, files_of}
 use Rattle.td_tool.specs.Ends.{Ends}
-use Rattle.td_tool.specs.Explained.{archive_paths, known_at, known_input, run_paths, track_paths}
-use Rattle.td_tool.specs.Explained.{waves_paths}
-use Rattle.td_tool.specs.Program.{OnlyIfAsked, files_asked}
+use Rattle.td_tool.specs.Explained.{archive_paths, known_at, known_input, plan_paths, run_paths}
+use Rattle.td_tool.specs.Explained.{track_paths, waves_paths}
+use Rattle.td_tool.specs.Program.{OnlyIfAsked, files_asked, plan_files, words_asked}
 use Rattle.td_tool.specs.Ran.{Ran}
 use Rattle.td_tool.specs.Runs.{EndsRun, run_files_asked}
 use Rattle.td_tool.specs.Streams.{DueTo}
-use Rattle.td_tool.specs.Tracks.{EndsSo, track_files}
+use Rattle.td_tool.specs.Tracks.{EndsSo, IsPlanWith, track_files}
 use Rattle.td_tool.proofs.Asks.{of_given}
 use Rattle.td_tool.proofs.answering.tool.Goals as goal
 
@@ -63,6 +64,19 @@ returns-in-Ok-clause-waves g c = λ archs packages sources tracker.
     c.answer.result)
     c.args.words c.in-Ok.words c.deref.result.now c.in-Ok.is c.deref.ensures.value
     (c.answer.ensures.waves archs packages sources tracker)
+
+pub returns-in-Ok-clause-plan : goal.returns-in-Ok-clause-plan
+returns-in-Ok-clause-plan g c = λ w.
+    of_given (λ l. AskForPlan l w) (λ b. Ran
+    (DueTo (g.R.Reader.can_fail c.args.reader.now) (g.W.Writer.can_fail c.args.output.now)
+    (EndsSo (IsPlanWith (words_asked w)) (plan_files (g.T.Texts.bytes c.args.texts.now)
+    (g.T.Texts.can_fail c.args.texts.now) w) (g.W.Write.contents c.args.output.now)
+    (g.W.Write.contents c.answer.new.output)))
+    b (known_at (g.T.Texts.bytes c.args.texts.now) (plan_paths w))
+    (g.E.Write.contents c.args.faults.now) (g.E.Write.contents c.answer.new.faults)
+    c.answer.result)
+    c.args.words c.in-Ok.words c.deref.result.now c.in-Ok.is c.deref.ensures.value
+    (c.answer.ensures.plan w)
 
 pub returns-in-Ok-clause-run : goal.returns-in-Ok-clause-run
 returns-in-Ok-clause-run g c = λ w.

@@ -5,7 +5,7 @@ use Rattle.td_tool.proofs.tracking.opening_says.Goals as goal
 
 pub returns : goal.returns
 returns g c =
-    opening_is_said c.args.asked c.in_ok-transition.transition c.args.archive.now
-    (tracking c.args.tracker.now) c.in_ok-transition.rows c.told.result
+    opening_is_said c.args.listing c.in_ok-transition.transition c.args.archive.now
+    (tracking c.args.tracker.now) c.in_ok-transition.rows c.listed.result
     c.in_ok-transition.ensures.archive c.in_ok-transition.ensures.tracking
-    c.in_ok-transition.ensures.rows c.told.ensures
+    c.in_ok-transition.ensures.rows c.listed.ensures

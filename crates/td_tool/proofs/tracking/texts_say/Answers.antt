@@ -9,7 +9,10 @@ use Rattle.td_tool.proofs.tracking.texts_say.Goals as goal
 pub open_texts-said-requires : goal.open_texts-said-requires
 open_texts-said-requires g c = λ k. (
   search rules,
-  ((refl, tt), λ o is. (tracker_lent _ o.tracker is.tracker, search rules)),
+  (
+    (refl, tt),
+    λ o is. (tracker_lent _ o.tracker is.tracker, ((_, is), search rules)),
+  ),
 )
 
 pub returns-in-Ok : goal.returns-in-Ok

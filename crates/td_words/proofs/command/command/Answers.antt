@@ -2,8 +2,8 @@
 use Rattle.std.proofs.Common.{◌≡◌}
 use Rattle.std.proofs.lemmas.Result.{IfOk-weaker}
 use Rattle.clap.specs.Simple.{app_of, with_subcommand}
-use Rattle.td_words.specs.CommandLine.{bare_desk, check_shape, desk, run_shape, simulate_shape}
-use Rattle.td_words.specs.CommandLine.{track_shape, waves_shape}
+use Rattle.td_words.specs.CommandLine.{bare_desk, check_shape, desk, plan_shape, run_shape}
+use Rattle.td_words.specs.CommandLine.{simulate_shape, track_shape, waves_shape}
 use Rattle.td_words.proofs.command.command.Goals as goal
 
 pub returns : goal.returns
@@ -12,6 +12,7 @@ returns c =
     let two = with_subcommand one check_shape in
     let three = with_subcommand two track_shape in
     let four = with_subcommand three waves_shape in
+    let five = with_subcommand four plan_shape in
     let of_one = IfOk-weaker c.with_part-whole.result _ (λ x. app_of x ≡ one)
     (λ x h. h bare_desk simulate_shape c.program.ensures c.simulate.ensures.shape
     c.simulate.ensures.globals) c.with_part-whole.ensures in
@@ -24,6 +25,9 @@ returns c =
     let of_four = IfOk-weaker c.with_part-whole-4.result _ (λ x. app_of x ≡ four)
     (λ x h. h three waves_shape of_three c.waves.ensures.shape c.waves.ensures.globals)
     c.with_part-whole-4.ensures in
+    let of_five = IfOk-weaker c.with_part-whole-5.result _ (λ x. app_of x ≡ five)
+    (λ x h. h four plan_shape of_four c.plan.ensures.shape c.plan.ensures.globals)
+    c.with_part-whole-5.ensures in
     IfOk-weaker c.with_part.result _ (λ x. app_of x ≡ desk)
-    (λ x h. h four run_shape of_four c.run.ensures.shape c.run.ensures.globals)
+    (λ x h. h five run_shape of_five c.run.ensures.shape c.run.ensures.globals)
     c.with_part.ensures

@@ -1,15 +1,17 @@
 -- `read_words`: its clauses.
 use Rattle.td_words.specs.Asked.{IsUsage, builders_said, track_said}
 use Rattle.td_words.proofs.Asking.{memory_said}
-use Rattle.std.proofs.Common.{◌≡◌, map, string_bytes, [], sym, refl, ap, subst, IfOk, ◌∙◌}
-use Rattle.std.proofs.Common.{IfErr}
+use Rattle.std.proofs.Common.{◌≡◌, map, string_bytes, [], Some, codes, sym, refl, ap, subst, IfOk}
+use Rattle.std.proofs.Common.{◌∙◌, IfErr}
 use Rattle.std.proofs.lemmas.Result.{IfOk-weaker}
 use Rattle.clap.specs.Faults.{fault_of}
 use Rattle.clap.specs.Simple.{subcommand_rows_of}
+use Rattle.clap.specs.Walk.{first_of}
 use Rattle.td_words.specs.CommandLine.{HasFiles, HasRun, HasTrack, HasTracker, is_explained}
 use Rattle.td_words.specs.CommandLine.{name_in, options_of, rows_in}
-use Rattle.td_words.specs.Asked.{Asks, IsGivenBy, check_of, report_of, request_words, run_of}
-use Rattle.td_words.specs.Asked.{waves_of}
+use Rattle.td_words.specs.PlanWords.{HasPlan, line_words_said}
+use Rattle.td_words.specs.Asked.{Asks, IsGivenBy, check_of, plan_of, report_of, request_words}
+use Rattle.td_words.specs.Asked.{run_of, waves_of}
 use Rattle.td_words.specs.declared.request.Request.TheVariants.{Simulate}
 use Rattle.td_words.specs.declared.request.WordsFault.TheVariants.{NoMemory}
 use Rattle.td_words.proofs.Asking.{asks, flag_of_call, holds_of_call, only_memory, only_of_call}
@@ -145,5 +147,38 @@ returns-in-Ok-clause-run_said c archs packages sources asking has =
 
 pub returns-in-Err-clause-run_said : goal.returns-in-Err-clause-run_said
 returns-in-Err-clause-run_said c archs packages sources asking has =
+    memory_said _ _ (c.fault_of.ensures (only_memory _ (map string_bytes c.args.words.now)
+    c.in-Err.error c.in_ok-command.ensures asking.0 c.in-Err.ensures.kinds))
+
+pub returns-in-Ok-clause-plan : goal.returns-in-Ok-clause-plan
+returns-in-Ok-clause-plan c w asking =
+    let m = c.in-Ok.matches in
+    let texts = map string_bytes c.args.words.now in
+    let rows = rows_are_asked _ m texts c.in_ok-command.ensures c.in-Ok.ensures.matches in
+    holds_of_call (λ r. request_words r ≡ plan_of w) (λ e. e ≡ NoMemory)
+    c.request_in.result c.is_explained_in.result
+    c.call_of.result c.call_of.ensures
+    (c.request_in.ensures.plan w (ap name_in rows ∙ asking.0.1)
+    (subst (λ o. HasPlan (rows_in o) w) (sym rows) asking.1))
+
+pub returns-in-Err-clause-plan : goal.returns-in-Err-clause-plan
+returns-in-Err-clause-plan c w asking =
+    c.fault_of.ensures (only_memory _ (map string_bytes c.args.words.now) c.in-Err.error
+    c.in_ok-command.ensures asking.0.0 c.in-Err.ensures.kinds)
+
+pub returns-in-Ok-clause-plan_said : goal.returns-in-Ok-clause-plan_said
+returns-in-Ok-clause-plan_said c archs packages sources tracker message asking has text =
+    let m = c.in-Ok.matches in
+    let texts = map string_bytes c.args.words.now in
+    let rows = rows_are_asked _ m texts c.in_ok-command.ensures c.in-Ok.ensures.matches in
+    holds_of_call (λ q. Unit {0}) (λ e. IsUsage e (line_words_said message)) c.request_in.result
+    c.is_explained_in.result c.call_of.result c.call_of.ensures
+    (c.request_in.ensures.plan_said archs packages sources tracker message
+    (ap name_in rows ∙ asking.1)
+    (subst (λ o. HasTracker (rows_in o) archs packages sources tracker) (sym rows) has)
+    (subst (λ o. first_of (codes "message") (rows_in o) ≡ Some message) (sym rows) text))
+
+pub returns-in-Err-clause-plan_said : goal.returns-in-Err-clause-plan_said
+returns-in-Err-clause-plan_said c archs packages sources tracker message asking has text =
     memory_said _ _ (c.fault_of.ensures (only_memory _ (map string_bytes c.args.words.now)
     c.in-Err.error c.in_ok-command.ensures asking.0 c.in-Err.ensures.kinds))

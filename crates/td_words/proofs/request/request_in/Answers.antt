@@ -1,7 +1,9 @@
 -- `request_in`: its clauses.
-use Rattle.std.proofs.Common.{IfErr, subst, sym}
+use Rattle.std.proofs.Common.{◌≡◌, IfErr, Some, codes, subst, sym}
+use Rattle.clap.specs.Walk.{first_of}
 use Rattle.td_words.specs.CommandLine.{HasFiles, HasRun, HasTrack, HasTracker}
 use Rattle.td_words.specs.Asked.{IsUsage, track_said}
+use Rattle.td_words.specs.PlanWords.{HasPlan}
 use Rattle.td_words.proofs.Asking.{rows_of_matches}
 use Rattle.td_words.proofs.request.request_in.Goals as goal
 
@@ -47,3 +49,18 @@ returns-in-Some-5-clause-run_said c archs packages sources named has =
     (subst (λ options. HasFiles options archs packages sources)
     (rows_of_matches c.args.matches.now c.subcommand.result _ c.in-Some.is
     c.subcommand.ensures.rows) has)
+
+pub returns-in-Some-6-clause-plan : goal.returns-in-Some-6-clause-plan
+returns-in-Some-6-clause-plan c w named has =
+    c.plan_in.ensures.plan w
+    (subst (λ options. HasPlan options w)
+    (rows_of_matches c.args.matches.now c.subcommand.result _ c.in-Some.is
+    c.subcommand.ensures.rows) has)
+
+pub returns-in-Some-6-clause-plan_said : goal.returns-in-Some-6-clause-plan_said
+returns-in-Some-6-clause-plan_said c archs packages sources tracker message named has text =
+    let rows = rows_of_matches c.args.matches.now c.subcommand.result _ c.in-Some.is
+    c.subcommand.ensures.rows in
+    c.plan_in.ensures.said archs packages sources tracker message
+    (subst (λ options. HasTracker options archs packages sources tracker) rows has)
+    (subst (λ options. first_of (codes "message") options ≡ Some message) rows text)

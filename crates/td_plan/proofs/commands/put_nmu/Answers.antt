@@ -1,0 +1,21 @@
+-- `put_nmu`: the whole line.
+use Rattle.std.proofs.Common.{◌++◌, ◌∷◌, ◌∙◌, [], List, ap, codes, decimal, map, string_bytes, ℕ}
+use Rattle.td_relation.specs.TableView.{table}
+use Rattle.td_plan.specs.Lines.{named_with, spaced}
+use Rattle.td_plan.specs.Message.{quoted}
+use Rattle.td_plan.specs.Premises.{arch_at}
+use Rattle.td_plan.proofs.Titles.{command-text}
+use Rattle.td_plan.proofs.commands.put_nmu.Goals as goal
+
+pub returns-clause-ok : goal.returns-clause-ok
+returns-clause-ok c =
+    let source : List ℕ = named_with c.args.source.now.name.now c.args.source.now.version.now in
+    let archs : List ℕ = spaced (map (arch_at (table c.args.archs.now)) c.args.places.now) in
+    let suite : List ℕ = c.args.words.now.suite.now in
+    let text : List ℕ = quoted c.args.words.now.message.now in
+    c.in_ok-put_message.ensures.ok
+    ∙ ap (λ (t : List ℕ). t ++ (text ++ 10 ∷ [])) (c.in_ok-put_front.ensures.ok
+    ∙ ap (λ (t : List ℕ). t ++ 32 ∷ (source ++ (codes " . " ++ (archs ++ (codes " . "
+    ++ (suite ++ codes " . -m ")))))) c.in_ok-put_number_verb.ensures.ok)
+    ∙ command-text (string_bytes c.args.out.now) (codes "nmu " ++ decimal c.args.number) source
+    archs suite text

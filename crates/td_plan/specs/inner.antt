@@ -1,0 +1,19 @@
+-- What contracts within this crate cite, of things where they lie in memory: a file a thing.
+pub mod Inputs
+pub mod Motions
+pub mod Movers
+pub mod Reasons
+pub mod Lists
+pub mod Searching
+pub mod Rebuilt
+pub mod Waiting
+pub mod Told
+pub mod Providing
+pub mod Asking
+pub mod Asked
+pub mod Askers
+pub mod Ordering
+pub mod Waiters
+pub mod Writing
+pub mod Sources
+pub mod Planned

@@ -1,0 +1,55 @@
+//! Plans: the lines that rebuild a whole transition, from a tracker to its last dep-wait.
+//!
+//! Start at `Plan::of`, which finds the rows that are due and the order of their sources;
+//! `Plan::text` writes the lines. `specs/Plan.antt` says what they are, `specs/Due.antt` which rows
+//! are due, `specs/Parts.antt` what parts and steps are, and `specs/Waits.antt` which row waits for
+//! what.
+//! A source takes a look-up for each alternative of its build, and a step for each source and each
+//! package that an alternative names; no clause says that.
+#![tactic(auto)]
+
+mod asks;
+mod commands;
+mod comments;
+mod due;
+mod inputs;
+mod laws;
+mod movers;
+mod numbers;
+mod ordering;
+mod part_laws;
+mod parts;
+mod plan;
+mod plan_laws;
+mod providers;
+mod reasons;
+mod relations;
+mod row_laws;
+mod search;
+mod sound_laws;
+mod source_text;
+mod strays;
+mod turning;
+mod versions;
+mod waits;
+mod words;
+
+pub use inputs::Inputs;
+pub use laws::{
+    plan_comments_are_skipped, plan_lines_are_read, plan_relations_are_read, plans_are_read,
+};
+pub use part_laws::{
+    due_sources_are_all, firsts_are_least, parts_are_mutual, placings_are_one, plans_are_one_text,
+    wanted_rows_are_told_once, ways_lead_down,
+};
+pub use parts::{Parts, parts_of};
+pub use plan::Plan;
+pub use plan_laws::{
+    due_rows_are_waited_for, rebuilds_are_of_due_sources, rows_are_released, rows_are_told_once,
+    sources_build_somewhere, waits_lead_down,
+};
+pub use row_laws::{
+    due_rows_are_exact, left_rows_are_explained, numbers_are_least, numbers_run_out_over_rows,
+};
+pub use sound_laws::{affected_rows_are_enough, read_archives_can_be_planned};
+pub use words::{WordFault, Words};

@@ -1,0 +1,13 @@
+-- `words_of_a_plan_ask_for_it`: the clauses `joined`, `separate` and `explained`.
+use Rattle.td_words.proofs.PlanAsking.{asks_for_plan, plan_explains}
+use Rattle.td_words.proofs.WordsApart.{asks_for_plan_apart}
+use Rattle.td_words.proofs.laws.words_of_a_plan_ask_for_it.Goals as goal
+
+pub returns-clause-joined : goal.returns-clause-joined
+returns-clause-joined c = asks_for_plan
+
+pub returns-clause-separate : goal.returns-clause-separate
+returns-clause-separate c = asks_for_plan_apart
+
+pub returns-clause-explained : goal.returns-clause-explained
+returns-clause-explained c = plan_explains

@@ -1,0 +1,2 @@
+-- What contracts within this crate cite.
+pub mod Judged
