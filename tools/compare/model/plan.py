@@ -2,9 +2,8 @@
 
 import functools
 
-from versions import equal, read_relation, read_version, split_rebuild
+from versions import MOST, base_text, equal, read_relation, read_version, split_rebuild
 
-MOST = 9999
 UNDER_WAY = ("Needs-Build", "Building", "Built", "Uploaded", "Dep-Wait")
 # What is said of a message, or of a suite, that no line can have.
 SAID = {
@@ -39,19 +38,6 @@ def arrival_text(version, number):
     else:
         head, rest = "", version
     return f"{head}{rest}" + (f"+b{number}" if number else "")
-
-
-def base_text(version):
-    """A package's own version without the `+bN` of a rebuild; of nothing but that, itself."""
-    epoch, colon, rest = version.partition(":")
-    if not colon:
-        epoch, rest = "", version
-    front, mark, digits = rest.rpartition("+b")
-    if not mark or not digits.isdigit() or digits[0] == "0" or int(digits) > MOST:
-        return version
-    if front == "" and (not colon or int(epoch) == 0):
-        return version
-    return f"{epoch}{colon}{front}"
 
 
 def is_version(text):

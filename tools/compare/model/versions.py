@@ -6,6 +6,8 @@ import re
 NAME = re.compile(r"[a-z0-9][a-z0-9+.-]+")
 ARCH_WORD = re.compile(r"[a-z0-9-]+")
 MOST_EPOCH = 2_147_483_647
+# The largest rebuild number.
+MOST = 9999
 
 
 class Fault(Exception):
@@ -78,6 +80,19 @@ def split_rebuild(text):
     """The base and the number of a rebuild, or the text and 0."""
     found = re.fullmatch(r"(.+)\+b([1-9][0-9]{0,3})", text, re.S)
     return (found[1], int(found[2])) if found else (text, 0)
+
+
+def base_text(version):
+    """A package's own version without the `+bN` of a rebuild; of nothing but that, itself."""
+    epoch, colon, rest = version.partition(":")
+    if not colon:
+        epoch, rest = "", version
+    front, mark, digits = rest.rpartition("+b")
+    if not mark or not digits.isdigit() or digits[0] == "0" or int(digits) > MOST:
+        return version
+    if front == "" and (not colon or int(epoch) == 0):
+        return version
+    return f"{epoch}{colon}{front}"
 
 
 def matches(word, arch):
