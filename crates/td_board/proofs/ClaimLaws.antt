@@ -1,4 +1,4 @@
--- What a claim answers, behind the release of a finished hand.
+-- What a claim answers; a finished hand is released first.
 use Rattle.std.proofs.Common.{◌≡◌, ◌≢◌, ℕ, ◌<◌, Bool, true, false, [], ◌∷◌, ◌++◌, sym, refl, ap}
 use Rattle.std.proofs.Common.{◌∙◌, subst, inl, inr, append-nil, append_assoc}
 use Rattle.std.specs.Prelude.{MatchBool}

@@ -16,7 +16,7 @@ use Rattle.td_board.specs.declared.desk.Withdrawal.TheVariants.{Withdrawn, Held}
 use Rattle.td_board.specs.Knowledge.{new_desk, with_row, desk_tried, with_claim, builder_tried}
 use Rattle.td_board.specs.Seats.{BoardModel, DeskModel, BuilderModel, new_seats}
 
--- a board of so many rows, the desk's seat, and a seat for each of so many builders
+-- a board of this many rows, the desk's seat, and a seat for each of this many builders
 pub record IsMade (rows builders : ℕ) (board : BoardModel) (desk : DeskModel)
     (seats : List BuilderModel) : Type 0 where
   pub rows_fit : rows ≤ max_rows
@@ -25,8 +25,8 @@ pub record IsMade (rows builders : ℕ) (board : BoardModel) (desk : DeskModel)
   pub desk_seat : desk ≡ record { table = board.table; desk = new_desk rows builders }
   pub builder_seats : seats ≡ new_seats board.table 1 builders
 
--- when each refusal comes, of a board for so many rows and builders:
--- too many rows before too many builders, and want of memory only within both limits
+-- when each refusal comes, of a board for this many rows and builders: too many rows before too
+-- many builders, and out of memory only within both limits
 abbrev pub IsRefusal : ℕ → ℕ → MakeRefusal → Type 0
 IsRefusal rows builders TooManyRows = max_rows < rows
 IsRefusal rows builders TooManyBuilders = (rows ≤ max_rows) × (max_builders < builders)
@@ -63,9 +63,9 @@ abbrev pub LostFree : ℕ → ℕ → List BuilderTry → Type 0
 LostFree rows row more =
     ((rows ≤ row) × (more ≡ [])) ⊎ ((row < rows) × (more ≡ ClaimLost row ∷ []))
 
--- the hand behind a claim that was lost, and its tries, by the hand before: nothing is tried where
--- it holds a row; a finished one is released first, and where that comes too early nothing more is
--- tried
+-- the hand after a claim that was lost, and the claim's tries, by the hand before it: nothing is
+-- tried if that holds a row; a finished one is released first, and if that comes too early nothing
+-- more is tried
 abbrev pub LostWith : ℕ → ℕ → Hand → Hand → List BuilderTry → Type 0
 LostWith rows row Free hand more = (hand ≡ Free) × LostFree rows row more
 LostWith rows row (Holding r) hand more = (hand ≡ Holding r) × (more ≡ [])
@@ -74,8 +74,8 @@ LostWith rows row (Finished r c) hand more =
     ⊎ ((hand ≡ Free)
     × ((rest : List BuilderTry) × (more ≡ ReleaseDone r ∷ rest) × LostFree rows row rest))
 
--- a claim is lost: the hand of a settled build may be freed, the tries are told, and nothing else
--- changed
+-- a claim is lost: the hand of a settled build may be freed, the tries are added to the builder's,
+-- and nothing else changed
 abbrev pub IsLost : ℕ → ℕ → BuilderModel → BuilderModel → Type 0
 IsLost rows row old new = (hand : Hand) × (more : List BuilderTry)
     × LostWith rows row old.builder.hand hand more
@@ -86,7 +86,7 @@ IsLost rows row old new = (hand : Hand) × (more : List BuilderTry)
       };
     })
 
--- the same of a claim that is tried at once, whatever is in hand: there is no such row, or the hand
+-- a claim that is tried at once, whatever is in hand, is lost: there is no such row, or the hand
 -- isn't free, and nothing changed; or the row was tried
 abbrev pub LostAtOnce : ℕ → ℕ → BuilderModel → BuilderModel → Type 0
 LostAtOnce rows row old new =

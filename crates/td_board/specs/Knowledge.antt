@@ -18,7 +18,7 @@ abbrev pub new_desk : ℕ → ℕ → DeskView
 new_desk rows builders =
     record { rows = replicate rows In; noted = replicate builders []; tried = [] }
 
--- the desk, with an empty list for each of so many builders
+-- the desk, with an empty list for each of this many builders
 abbrev pub new_lists : ℕ → DeskView → DeskView
 new_lists builders d = record { rows = d.rows; noted = replicate builders []; tried = d.tried }
 

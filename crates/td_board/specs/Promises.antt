@@ -11,7 +11,7 @@ use Rattle.td_board.specs.Knowledge.{noted_of, with_finish}
 use Rattle.td_board.specs.Steps.{Moment, IsAt, DeskKnows, BuilderKnows, moved, Step, Reached}
 use Rattle.td_board.specs.Rule.{Fits}
 
--- a word shows one phase alone
+-- a word shows only one phase
 abbrev pub WordsTellPhasesApart : Type 0
 WordsTellPhasesApart = (p q : Phase) → word_of p ≡ word_of q → p ≡ q
 
@@ -44,8 +44,7 @@ abbrev pub HoldLasts : Type 0
 HoldLasts = (rows : ℕ) (m n : Moment) → Reached rows m → Step m n → (b r : ℕ) (v : BuilderView)
     → BuilderKnows m b v → v.hand ≡ Holding r → StillHolds n b r ⊎ IsItsFinish m n b r v
 
--- what the desk noted of a builder is what that builder did,
--- but for the builder's last deed at most
+-- what the desk noted of a builder is what that builder did, except the builder's last deed at most
 abbrev pub NothingInvented : Type 0
 NothingInvented = (rows : ℕ) (m : Moment) → Reached rows m
     → (b : ℕ) (d : DeskView) (v : BuilderView)

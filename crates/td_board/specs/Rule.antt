@@ -60,8 +60,8 @@ pub record BuilderFits (phases : List Phase) (lists : List (List Deed)) (k : ℕ
   pub number : view.number ≡ suc k
   pub listed : ListFits phases (suc k) view.hand known view.mine
 
--- the rule of a board with so many rows: one seat is the desk's, the others the builders',
--- one a list of the desk's, and each row and each builder agrees with the desk's view
+-- the rule of a board with this many rows: one seat is the desk's, the others the builders', one a
+-- list of the desk's, and each row and each builder agrees with the desk's view
 pub record Fits (rows : ℕ) (phases : List Phase) (desk : DeskView)
     (views : List View) : Type 0 where
   pub long : length phases ≡ rows

@@ -31,7 +31,7 @@ pub record BuilderModel : Type 0 where
 abbrev pub rows_of : TableId → ℕ
 rows_of table = table.words - 1
 
--- the row of a hand is one of so many
+-- the row of a hand, if it has one, is one of this many
 abbrev pub HasRow : ℕ → Hand → Type 0
 HasRow rows Free = Unit {0}
 HasRow rows (Holding r) = r < rows

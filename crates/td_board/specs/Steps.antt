@@ -48,7 +48,7 @@ BuilderKnows m b v = get_elem? m.views b ≡ some (Builder v)
 abbrev pub Shows : DeskView → ℕ → RowView → Type 0
 Shows d r x = get_elem? d.rows r ≡ some x
 
--- a new board: every row is closed, and the desk alone has a seat
+-- a new board: every row is closed, and only the desk has a seat
 abbrev pub new_board : ℕ → Moment
 new_board rows = record { phases = replicate rows closed; views = Desk (new_desk rows 0) ∷ [] }
 
@@ -70,7 +70,7 @@ moved r p i w m = record { phases = slice_set m.phases r p; views = slice_set m.
 
 -- One atomic step of a seat leads from m to n. With the making of the board these are its fourteen
 -- kinds: each says when it comes, which phase it changes, and what its own seat knows afterwards.
--- Each but the split of a seat is told in its own seat's list, also a try that moves nothing
+-- Each except the split of a seat is added to its own seat's list, also a try that moves nothing
 pub data Step (m n : Moment) : Type 0 where
   -- a builder's seat is split off the desk's
   seat : (d : DeskView) → DeskKnows m d → n ≡ seated d m → Step m n
@@ -99,7 +99,7 @@ pub data Step (m n : Moment) : Type 0 where
   finish_done : (r b : ℕ) (c : OutcomeCode) (v : BuilderView) → BuilderKnows m b v
       → v.hand ≡ Holding r → IsAt m r (noted b)
       → n ≡ moved r (done b c) b (Builder (with_finish r c v)) m → Step m n
-  -- its claim isn't noted yet
+  -- a builder tries to finish the row that it holds, but its claim isn't noted yet
   finish_early : (r b : ℕ) (c : OutcomeCode) (p : Phase) (v : BuilderView) → BuilderKnows m b v
       → v.hand ≡ Holding r → IsAt m r p → p ≢ noted b
       → n ≡ learned b (Builder (builder_tried (FinishEarly r c) v)) m → Step m n
@@ -116,13 +116,13 @@ pub data Step (m n : Moment) : Type 0 where
   release_done : (r b : ℕ) (c : OutcomeCode) (p : Phase) (v : BuilderView) → BuilderKnows m b v
       → v.hand ≡ Finished r c → IsAt m r p → p ≢ done b c
       → n ≡ learned b (Builder (with_free_hand v)) m → Step m n
-  -- its finish isn't settled yet
+  -- a builder tries to free its hand, but its finish isn't settled yet
   release_early : (r b : ℕ) (c : OutcomeCode) (v : BuilderView) → BuilderKnows m b v
       → v.hand ≡ Finished r c → IsAt m r (done b c)
       → n ≡ learned b (Builder (builder_tried (ReleaseEarly r) v)) m → Step m n
 
--- a board of so many rows is at this moment after some schedule:
--- a list of steps, one after the other, of whichever seats
+-- a board of this many rows is at this moment after some schedule: a list of steps, one after the
+-- other, of whichever seats
 pub data Reached (rows : ℕ) : Moment → Type 0 where
   made : Reached rows (new_board rows)
   after : {m n : Moment} → Reached rows m → Step m n → Reached rows n

@@ -89,7 +89,7 @@ impl Board {
         self.rows
     }
 
-    // The seats of so many builders, at a board that has none.
+    // The seats of this many builders, at a board that has none.
     fn seats(
         &self,
         alloc: Global,

@@ -15,7 +15,7 @@ use crate::views::Hand;
 use crate::words::{OPEN, done_word, held_word, noted_word};
 
 impl Board {
-    /// Claims a row. A hand that is Finished is released first. True exactly where this seat took
+    /// Claims a row. A hand that is Finished is released first. True if and only if this seat took
     /// the row from Open to Held. False where the row was tried and wasn't Open; without a try of
     /// it only where the hand isn't Free then, or there is no such row.
     pub fn claim(&self, row: usize, seat: &mut BuilderSeat) -> bool

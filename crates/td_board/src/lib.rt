@@ -1,12 +1,12 @@
 //! The claim board: builders claim queued rows without a lock, and at most one holds a row.
 //!
-//! Start at `Board`. `desk` has the steps of the desk's seat, `builder` those of a builder's;
-//! each is one atomic step on one word (a claim behind a settled finish two), needs neither a lock
-//! nor memory, and is tried once.
-//! Promised: each call says what its own seat knows before and after, and what it tried, also
-//! where nothing came of it (`views`); and over every schedule of steps at most one builder holds a
-//! row, a builder holds at most one, a hold ends only by its holder's finish, and the desk notes
-//! nothing that the builder hasn't done (`promises`).
+//! Start at `Board`. `desk` has the steps of the desk's seat, `builder` those of a builder's; each
+//! is one atomic step on one word (a claim after a settled finish is two), needs neither a lock nor
+//! memory, and is tried once.
+//! Promised: each call says what its own seat knows before and after, and what it tried, also if
+//! nothing came of it (`views`); and over every schedule of steps at most one builder holds a row,
+//! a builder holds at most one, a hold ends only by its holder's finish, and the desk notes nothing
+//! that the builder hasn't done (`promises`).
 #![tactic(auto)]
 
 mod board;

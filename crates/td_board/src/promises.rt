@@ -3,7 +3,7 @@
 ghost use Rattle.td_board.specs.Promises.{WordsTellPhasesApart, RuleStands, OneHolder, OneRowEach};
 ghost use Rattle.td_board.specs.Promises.{HoldLasts, NothingInvented, ListsGrow};
 
-/// A word shows one phase alone.
+/// A word shows only one phase.
 pub fn phases_have_words_of_their_own()
     ensures { WordsTellPhasesApart }
 {}

@@ -14,7 +14,7 @@ use std::marker::Model;
 #[derive(Drop)]
 pub struct DeskSeat {
     pub(crate) seat: Seat<(), View>,
-    // By row: the builder's number, where the row is Seen or Known.
+    // By row number, the builder's number, if the row is Seen or Known.
     pub(crate) holders: Vec<u64>,
     // How many builders have a seat.
     pub(crate) builders: u64,

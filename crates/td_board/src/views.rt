@@ -1,4 +1,4 @@
-//! What the desk and the builders know. But for `Hand`, no value of these types is ever made:
+//! What the desk and the builders know. Except for `Hand`, no value of these types is ever made:
 //! contracts and the rule speak of them, and they cost nothing when the program runs.
 use crate::outcome::OutcomeCode;
 use std::collections::LinkedList;
@@ -35,13 +35,13 @@ pub enum DeskTry {
     Offered(usize),
     /// The offer of the row was taken back.
     WithdrawalWon(usize),
-    /// It wasn't: the builder of this number was faster.
+    /// The offer of the row wasn't taken back: the builder of this number was faster.
     WithdrawalLost(usize, u64),
     /// The claim of this builder on the row was noted.
     ClaimNoted(usize, u64),
     /// The build of the row had ended with this outcome, and was settled.
     SettleDone(usize, OutcomeCode),
-    /// It hadn't ended so.
+    /// The build of the row hadn't ended with this outcome.
     SettleEarly(usize, OutcomeCode),
 }
 
@@ -63,7 +63,7 @@ pub enum BuilderTry {
 
 /// What the desk knows.
 pub struct DeskView {
-    /// By the row's number.
+    /// What it knows of each row, by the row's number.
     pub rows: LinkedList<RowView>,
     /// What it noted of each builder, in order. Builder 1 comes first.
     pub noted: LinkedList<LinkedList<Deed>>,

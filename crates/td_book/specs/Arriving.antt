@@ -24,8 +24,8 @@ ArriveStop k b (DoesNotApply s) =
     × (s ≡ row.state)
 ArriveStop k b NoMemory = ⊥
 
--- the entry on the key, where its row has been built or uploaded; else nothing, and nothing where
--- memory is wanting for that entry
+-- the entry on the key, if its row has been built or uploaded; else, or if memory for that entry
+-- runs out, nothing
 abbrev pub ArriveOutcome : Key → BookModel → BookModel → Result ℕ ArriveRefusal → Type 0
 ArriveOutcome k old new (Ok n) =
     (row : Row) × (row_of (rows_of old.history) k ≡ Some row) × (applies Arrive row ≡ true)
@@ -44,11 +44,12 @@ ArriveOutcome k old new (Err NoMemory) =
 abbrev pub freed_now : BookModel → List Key
 freed_now b = freed (supply_now b.fixed.stock b.history) (rows_of b.history)
 
--- the history with an entry that frees them
+-- the history with a sweep's entry on the keys of the rows that the offers free now
 abbrev pub swept_now : BookModel → History
 swept_now b = with_entry b.history (record { kind = Sweep; keys = freed_now b })
 
--- the entry on all of them, if there are any, and then the offers of those that need a build
+-- a sweep makes the entry on all the keys that the offers free, if there are any, and then the
+-- offers of those that need a build
 abbrev pub SweepOutcome : BookModel → BookModel → Result (Option ℕ) AllocError → Type 0
 SweepOutcome old new (Ok None) = (freed_now old ≡ []) × (new ≡ old)
 SweepOutcome old new (Ok (Some n)) =

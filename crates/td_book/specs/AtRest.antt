@@ -12,8 +12,8 @@ use Rattle.td_book.specs.Deeds.{IsInside}
 use Rattle.td_book.specs.Desk.{BookModel}
 use Rattle.td_book.specs.Seen.{seen_off}
 
--- row by row: it is offered exactly where it needs a build, and known to be a builder's exactly
--- where it is Building by it
+-- row by row: the row is offered if and only if it needs a build, and known to be a builder's if
+-- and only if it is Building by it
 abbrev pub AreServed : List RowView → Table → Type 0
 AreServed view t =
     (i : ℕ) (k : Key) (row : Row) → slice_get t i ≡ Some (k, row)

@@ -69,16 +69,16 @@ abbrev pub version_now : BookModel → Key → List ℕ
 version_now b k = unwrap_or (version_of (supply_now b.fixed.stock b.history) k.source) []
 
 -- the job of the row with a number: its key, its source's version with the rebuild's suffix, its
--- number, and what the rebuild needs beside
+-- number, and what the rebuild needs in addition to its build dependencies
 abbrev pub IsJobAt : ℕ → BookModel → Job → Type 0
 IsJobAt i b job =
     (row : Row) × (slice_get (rows_of b.history) i ≡ Some (job.key, row))
     × (job.number ≡ row.number) × (job.extra ≡ row.extra)
     × (string_bytes job.version ≡ rebuild_text (version_now b job.key) row.number)
 
--- the claim of the row with a number is noted, whoever's it is; and whether the builder has the row
--- then. The row was withdrawn for that where it needed a build, and no other, and offered again
--- where no claim was there; what was tried behind it is told
+-- the claim of the row with a number is noted, whoever's it is, and `is` says whether the builder
+-- has the row then. The row, and no other, was withdrawn for that if it needed a build, and offered
+-- again if no claim was there; `behind` is what was tried after that
 pub record Noticed (i b : ℕ) (is : Bool) (behind : List DeskTry)
     (old new : BookModel) : Type 0 where
   pub key : Key
@@ -90,8 +90,9 @@ pub record Noticed (i b : ℕ) (is : Bool) (behind : List DeskTry)
   pub tries : new.tries ≡ old.tries ++ (look_at (rows_of old.history) key by ++ behind)
   pub fixed : new.fixed ≡ old.fixed
 
--- with no row in hand nothing is started, and no memory is taken; else the builder has the row, and
--- its job is of the rows as they are then
+-- what a start answers: with no row in hand nothing is started, and no memory is taken; else,
+-- unless memory runs out, the claim is noted, and the job, by the rows before the call, is given if
+-- the builder has the row
 abbrev pub StartOutcome : ℕ → Hand → BookModel → BookModel → Result Job StartRefusal → Type 0
 StartOutcome b (Holding i) old new (Ok job) = Noticed i b true [] old new × IsJobAt i old job
 StartOutcome b (Holding i) old new (Err Mismatch) = Noticed i b false [] old new

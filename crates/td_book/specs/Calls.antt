@@ -60,7 +60,7 @@ pub record OutAt (t : Table) (k : Key) (i : ℕ) : Type 0 where
 abbrev pub HasOut : Table → ℕ → Type 0
 HasOut t i = (k : Key) × OutAt t k i
 
--- it doesn't, if there is one
+-- the row with this number, if there is one, needs no build
 abbrev pub HasIdle : Table → ℕ → Type 0
 HasIdle t i = (k : Key) (row : Row) → slice_get t i ≡ Some (k, row) → is_queued row.state ≡ false
 
@@ -110,7 +110,7 @@ pub record WithdrewAt (named : List Key) (i : ℕ) (old new : InnerModel)
   pub spent : Spent (key ∷ []) old.books new.books
   pub kept : answer ≡ None → new.books ≡ old.books
 
--- the named rows are withdrawn, but for those that builders had won
+-- the named rows are withdrawn, except those that builders had won
 pub record Withdrew (named : List Key) (old new : InnerModel) : Type 0 where
   pub choices : List ℕ
   pub chosen : Choices old.builders named choices
@@ -162,21 +162,22 @@ PlanIsOff None off = Unit {0}
 PlanIsOff (Some p) off =
     (cells p.kind).state ≡ true → (k : Key) → names (left p) k ≡ true → names off k ≡ true
 
--- the entry on the keys, of those whose version matches, on which the kind applies; the rows that
--- it leaves are told of the rows just before it
+-- the entry on the keys, of those whose version matches, on which the kind applies; the skips are
+-- found in the rows just before it
 abbrev pub Enters : Kind → List Key → (Table → List Skip) → History → History → Taken → Type 0
 Enters kind matched left noted new taken =
     (takes (rows_of noted) kind matched ≢ [])
     × (new ≡ with_entry noted (record { kind = kind; keys = takes (rows_of noted) kind matched }))
     × (taken.number ≡ length noted.journal + 1) × (taken.skips ≡ left (rows_of noted))
 
--- the kind applies on none of them
+-- the kind applies on none of the keys whose version matches, so no entry is made; the skips are
+-- found in the rows then
 abbrev pub Nothing : Kind → List Key → (Table → List Skip) → History → History → List Skip → Type 0
 Nothing kind matched left noted new skips =
     (takes (rows_of noted) kind matched ≡ []) × (new ≡ noted) × (skips ≡ left (rows_of noted))
 
--- want of memory leaves the history; else the claims of builders that were faster are noted, and
--- then the entry is made
+-- the history after a command: as it was if memory ran out; else the claims of builders that were
+-- faster are noted, and then the entry is made, if there are keys for it
 abbrev pub CommandOutcome : Kind → List Key → List Key → (Table → List Skip) → BookModel → BookModel
     → Result Taken CommandRefusal → Type 0
 CommandOutcome kind named matched left old new (Err NoMemory) = new.history ≡ old.history
@@ -188,8 +189,8 @@ CommandOutcome kind named matched left old new (Ok taken) =
     × Enters kind matched left (noting old.history (off_for kind named) choices) new.history taken
 
 -- the rows of the keys that needed a build were withdrawn, each once, in the order of the keys: the
--- claims that are noted are those of the withdrawals that were lost; what was done behind it is
--- told
+-- claims that are noted are those of the withdrawals that were lost; `behind` is what was done
+-- after that
 pub record AreTried (builders : ℕ) (keys : List Key) (h noted : History)
     (behind old new : List DeskTry) : Type 0 where
   pub choices : List ℕ
@@ -197,9 +198,9 @@ pub record AreTried (builders : ℕ) (keys : List Key) (h noted : History)
   pub history : noted ≡ noting h keys choices
   pub tries : new ≡ old ++ (tries_for (rows_of h) keys choices ++ behind)
 
--- what a command did at the board: nothing where memory was wanting, else the withdrawals of the
--- rows that it names, where its kind has to do with their states, before its entry if it made one,
--- and the offers of those of them that need a build then
+-- what a command did at the board: nothing if memory ran out, else the withdrawals of the rows that
+-- it names, if its kind has to do with their states, before its entry if it made one, and the
+-- offers of those of them that need a build then
 abbrev pub CommandTries : Kind → List Key → List Key → BookModel → BookModel
     → Result Taken CommandRefusal → Type 0
 CommandTries kind named matched old new (Err NoMemory) = new.tries ≡ old.tries
@@ -221,7 +222,7 @@ pub record IsCommanded (kind : Kind) (named matched : List Key) (left : Table �
   pub outcome : CommandOutcome kind named matched left old new result
   pub tries : CommandTries kind named matched old new result
 
--- what a call answers: the entry's number with the skips, or these alone
+-- what a command's call answers: the entry's number with the skips, or only the skips
 abbrev pub taken_of : Option ℕ → List Skip → Result Taken CommandRefusal
 taken_of None skips = Err (NothingApplies skips)
 taken_of (Some n) skips = Ok (record { number = n; skips = skips })

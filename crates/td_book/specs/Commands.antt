@@ -15,11 +15,11 @@ use Rattle.td_book.specs.Desk.{BookModel}
 use Rattle.td_naming.specs.Naming.{named_in, is_matched_at}
 use Rattle.td_naming.specs.Skips.{doubt, skips_of}
 
--- the rows that it names in a book
+-- the rows that a command names in a book
 abbrev pub named_by : CommandParts → BookModel → List Key
 named_by c b = named_in c (rows_of b.history)
 
--- whether a row's version matches there
+-- whether the version of a row matches a command in a book
 abbrev pub is_matched_in : CommandParts → BookModel → Key → Bool
 is_matched_in c b = is_matched_at c (supply_now b.fixed.stock b.history) (rows_of b.history)
 
@@ -30,7 +30,7 @@ IsDone c old new result =
     IsCommanded (kind_of c) (named_by c old) (filter (is_matched_in c old) (named_by c old))
     (skips_of (is_matched_in c old) (kind_of c) (named_by c old)) old new result
 
--- what is looked up for it
+-- what is looked up for a command in a book
 pub record IsAsked (c : CommandParts) (b : BookModel) (asked : Asked) : Type 0 where
   pub kind : asked.kind ≡ kind_of c
   pub named : asked.named.items ≡ named_by c b

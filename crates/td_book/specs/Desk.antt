@@ -30,7 +30,7 @@ pub record Fixed : Type 0 where
   pub since : ℕ
   pub watch : WatchView
 
--- the same at rest: the desk's view follows from the history, and room is no part of it
+-- a book at rest: the desk's view follows from the history, and room is no part of it
 pub record BookModel : Type 0 where
   pub history : History
   pub fixed : Fixed

@@ -84,7 +84,7 @@ FinishAgain i c o b old new (Err Mismatch) =
     × ((more : List DeskTry) × (new ≡ record old { tries = old.tries ++ more })
     × (((code_of o ≢ c) × (more ≡ [])) ⊎ ((code_of o ≡ c) × (more ≡ SettleEarly i c ∷ []))))
 
--- by what the hand has
+-- what a finish answers, by what the builder's hand has
 abbrev pub FinishOutcome : Hand → Outcome → BuilderView → BuilderView → BookModel → BookModel
     → Result ℕ FinishRefusal → Type 0
 FinishOutcome Free o v w old new result = (result ≡ Err NothingHeld) × (new ≡ old) × (w ≡ v)

@@ -10,24 +10,24 @@ use Rattle.td_change.specs.Saved.{number_of}
 use Rattle.td_core.specs.History.{History, rows_of}
 use Rattle.td_core.specs.Refusals.{is_queued_at}
 
--- the withdrawal of a row: won where the desk was first, which 0 says, else lost to that builder,
+-- the withdrawal of a row: won if the desk was first, which 0 says, else lost to that builder,
 -- whose claim is noted at once
 abbrev pub withdrawal : ℕ → ℕ → List DeskTry
 withdrawal row zero = WithdrawalWon row ∷ []
 withdrawal row (suc b) = WithdrawalLost row (suc b) ∷ ClaimNoted row (suc b) ∷ []
 
--- that of the key's row, if it needs a build
+-- the withdrawal of the key's row, if it needs a build
 abbrev pub tries_at : Table → Key → ℕ → List DeskTry
 tries_at t k b = if is_queued_at t k then withdrawal (number_of t k) b else []
 
--- those of the keys' rows that need a build, in the order of the keys: who was first at each is
--- chosen by the list
+-- the withdrawals of the keys' rows that need a build, in the order of the keys: the list says who
+-- was first at each
 abbrev pub tries_for : Table → List Key → List ℕ → List DeskTry
 tries_for t [] bs = []
 tries_for t (k ∷ ks) [] = []
 tries_for t (k ∷ ks) (b ∷ bs) = tries_at t k b ++ tries_for t ks bs
 
--- the same where the desk was first at each
+-- the withdrawals of the keys' rows that need a build, if the desk was first at each
 abbrev pub wins_for : Table → List Key → List DeskTry
 wins_for t ks = map (λ k. WithdrawalWon (number_of t k)) (filter (is_queued_at t) ks)
 

@@ -40,8 +40,8 @@ pub record IsWon (before after : History) (builders : ℕ) (named : List Key) (n
   pub now : after ≡ with_entry before (claim_of by key)
   pub number : n ≡ length before.journal + 1
 
--- it was the first that the desk lost: the rows before it that were out had been withdrawn, and are
--- offered again once its claim is noted, and none behind it was tried
+-- the first withdrawal that the desk lost was the last that it tried: the rows before that one that
+-- were out had been withdrawn, and are offered again once the builder's claim is noted
 pub record IsStopped (before after : History) (builders : ℕ) (named : List Key)
     (old new : List DeskTry) : Type 0 where
   pub first : List Key
@@ -59,7 +59,8 @@ pub record IsStopped (before after : History) (builders : ℕ) (named : List Key
       ∷ ClaimNoted (number_of (rows_of before) key) by
       ∷ offers_for (rows_of after) (first ++ key ∷ []))
 
--- that, and all rows are as at rest
+-- a builder had won a named row, at the first withdrawal that the desk lost, and all rows are as at
+-- rest
 pub record LostOne (old new : InnerModel) (named : List Key) (n : ℕ) : Type 0 where
   pub won : IsWon old.books.history new.books.history old.builders named n
   pub view : new.view ≡ seen_off [] (rows_of new.books.history)
@@ -73,8 +74,8 @@ pub record AreOff (keys : List Key) (old new : InnerModel) : Type 0 where
   pub tries : new.tries ≡ old.tries ++ wins_for (rows_of old.books.history) keys
   pub stays : Stays old new
 
--- what the withdrawal of keys answers: they are withdrawn, or a builder had won one; memory is
--- wanting only where there are any
+-- what the withdrawal of keys answers: they are withdrawn, or a builder had won one; memory runs
+-- out only if there are any keys
 abbrev pub WithdrawAnswer : List Key → InnerModel → InnerModel → Result (Unit {0}) UndoRefusal
     → Type 0
 WithdrawAnswer keys old new (Ok u) = AreOff keys old new
@@ -103,7 +104,7 @@ UndoOutcome n old new (Err undos.AlreadyUndone) = ⊥
 
 -- what an undo did at the board: the withdrawals of the entry's rows that needed a build, in the
 -- order of their keys, up to the first that is lost, and then the offers of those rows that need a
--- build; nothing where memory was wanting
+-- build; nothing if memory ran out
 abbrev pub UndoTries : ℕ → BookModel → BookModel → Result (Unit {0}) UndoRefusal → Type 0
 UndoTries n old new (Ok u) =
     IsSomeAnd (entry_at old.history.journal n) (λ e.
@@ -118,9 +119,9 @@ UndoTries n old new (Err undos.NoSuchEntry) = ⊥
 UndoTries n old new (Err undos.NotACommand) = ⊥
 UndoTries n old new (Err undos.AlreadyUndone) = ⊥
 
--- an undo of a standing command that no later entry touches leaves the book and answers so: what is
--- fixed stays, the history and the tries fit the answer, and memory is wanting only where the
--- entry's kind has to do with states
+-- what an undo of a standing command that no later entry touches does and answers: what is fixed
+-- stays, the history and the tries fit the answer, and memory runs out only if the entry's kind has
+-- to do with states
 pub record IsUndone (n : ℕ) (old new : BookModel)
     (result : Result (Unit {0}) UndoRefusal) : Type 0 where
   pub fixed : new.fixed ≡ old.fixed
@@ -135,7 +136,7 @@ mark_stop Undone b = Some undos.AlreadyUndone
 mark_stop Standing (Some m) = Some (undos.Blocked m)
 mark_stop Standing None = None
 
--- why an undo makes no atomic step, if so
+-- why an undo of entry n makes no atomic step, if it makes none
 abbrev pub undo_stop : List Marked → ℕ → Option UndoRefusal
 undo_stop ms n =
     elim (entry_at ms n) [

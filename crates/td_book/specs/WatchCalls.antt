@@ -35,7 +35,7 @@ watch_stop t groups given =
     (option_or (option_map Twice (twice_in [] given))
     (option_map BadGroup (outside_in groups given)))
 
--- the same book, of which other rows are watched
+-- a book with these rows watched, and else as it was
 abbrev pub with_watch : BookModel → WatchView → BookModel
 with_watch b w = record b { fixed = record b.fixed { watch = w } }
 

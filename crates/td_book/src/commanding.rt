@@ -32,7 +32,7 @@ pub struct Taken {
 /// Why a command made no entry.
 #[derive(Debug, Drop)]
 pub enum CommandRefusal {
-    /// It takes none of the rows that it names.
+    /// The command takes none of the rows that it names.
     NothingApplies(Skips),
     NoMemory,
 }

@@ -5,11 +5,11 @@
 //! `waiting` says what is to be built next, `arriving` tells the book what the archive has,
 //! `watching` how many rows of a group are Installed. `inner` withdraws rows from the board and
 //! offers them, and says what the desk knows of each row meanwhile.
-//! Promised: between calls a row is offered exactly where it needs a build, and known to be a
-//! builder's exactly where it is Building by it (`Book::seat`). Each call says which rows it tries
+//! Promised: between calls a row is offered if and only if it needs a build, and known to be a
+//! builder's if and only if it is Building by it (`Book::seat`). Each call says which rows it tries
 //! to withdraw (`specs/Tries.antt`); a try that a builder wins notes its claim, and no other claim
-//! is noted. A refused call leaves the book but for such claims, and a refused finish may leave the
-//! builder's own hand finished. Each call says the history that it leaves.
+//! is noted. A refused call leaves the book as it was except for such claims, and a refused finish
+//! may leave the builder's own hand finished. Each call says the history that it leaves.
 #![tactic(auto)]
 
 mod arriving;

@@ -23,7 +23,7 @@ pub struct Offers {
     seat: DeskSeat,
     // The numbers of the rows on offer, in no order.
     outs: Vec<usize>,
-    // By row: where it stands there, if it's on offer.
+    // By row number, where in `outs` the row is, if it's on offer.
     places: Vec<usize>,
 }
 

@@ -16,7 +16,7 @@ pub struct Job {
     /// The source's version, with the rebuild's suffix.
     pub version: String,
     pub number: RebuildNumber,
-    /// What the rebuild needs beside its build dependencies; empty where none.
+    /// What the rebuild needs in addition to its build dependencies; empty if nothing.
     pub extra: Line,
 }
 

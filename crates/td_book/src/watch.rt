@@ -13,7 +13,8 @@ use td_core::Books;
 use td_journal::EntryNo;
 use td_rows::{Key, Kind, Rows, State};
 
-/// By row number its group, where the row is watched; by group how many of its rows are Installed.
+/// Which rows are watched: by row number its group, if the row is watched; by group how many of its
+/// rows are Installed.
 #[derive(Drop)]
 pub struct Watch {
     pub(crate) groups: Vec<Option<usize>>,
@@ -54,7 +55,7 @@ impl Watch {
         }
     }
 
-    /// A watch of rows by these groups, of so many, as the rows are.
+    /// A watch of rows by the group of each, out of this many groups, as the rows are.
     pub fn over(
         alloc: Global,
         groups: usize,

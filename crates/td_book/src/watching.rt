@@ -91,7 +91,7 @@ fn no_groups(alloc: Global, rows: &Rows) -> Result<Vec<Option<usize>>, AllocErro
 }
 
 impl<'a> Book<'a> {
-    /// Watches rows, each under a group below their number, in place of those that were watched
+    /// Watches rows, each under a group below their number, instead of those that were watched
     /// before.
     pub fn watch(&mut self, groups: usize, rows: &[(Key, usize)]) -> Result<(), WatchRefusal>
         ensures { WatchOutcome groups rows.now self.old self.new result }

@@ -1,4 +1,4 @@
--- How an outcome line is read, and what is told of it. This project's own.
+-- How an outcome line is read, and what is answered then. This project's own.
 use Rattle.std.specs.Prelude.{ℕ, List, Option, Some, None, Result, Ok, Err}
 use Rattle.std.specs.declared.alloc.AllocError.{AllocError}
 use Rattle.td_text.specs.Chain.{◌>>=◌}

@@ -1,5 +1,5 @@
--- A builder's turns: a row is claimed, the job that is given for it is built, and its end is told.
--- This project's own.
+-- A builder's turns: it claims a row, builds the job that is given for it, and tells its end. This
+-- project's own.
 use Rattle.std.specs.Prelude.{◌≡◌, ◌≢◌, ◌⊎◌, ℕ, List, [], ◌∷◌, ◌++◌, length}
 use Rattle.td_board.specs.declared.outcome.OutcomeCode.{OutcomeCode}
 use Rattle.td_board.specs.declared.views.Hand.{Hand}

@@ -83,7 +83,7 @@ pub trait Floor {
     /// What is known once one of its calls was refused: for what the builder stops.
     ghost stopped: { Self → WorkStopValue → Type 0 };
 
-    /// For what a builder stops that was given this.
+    /// Why a builder stops, by what it was given.
     ghost reason: { Self.Stopped → WorkStopValue };
 
     /// The numbers of the rows that wait for a builder, in the order in which they are to be tried.

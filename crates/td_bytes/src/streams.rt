@@ -10,7 +10,7 @@ pub trait Reader: Read {
     ghost use Rattle.std.specs.Io.KnownBytes.{ReadConsumes};
     ghost use Rattle.td_bytes.specs.Failures.{IsDue, StaysUnlessFailed};
 
-    // Whether a read may fail, but by a signal that interrupts it. It stays so until one fails.
+    // Whether a read may fail, except by a signal that interrupts it. It stays so until one fails.
     ghost can_fail: { Self → Bool };
 
     // How many reads signals may interrupt yet, at most, if none may fail.

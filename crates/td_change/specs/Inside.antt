@@ -19,7 +19,7 @@ put_back m (s ∷ kept) t = changed_at s.0 (restore m s.1) (put_back m kept t)
 abbrev pub ready : Kind → Table → Key → Key × (ℕ × Row)
 ready kind t k = (k, (number_of t k, texts_of kind))
 
--- the key and the number alone
+-- only the key and the number, without the row
 abbrev pub numbered : Key × (ℕ × Row) → Key × ℕ
 numbered e = (e.0, e.1.0)
 

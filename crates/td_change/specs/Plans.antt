@@ -11,20 +11,20 @@ pub record Planned : Type 0 where
   pub kind : Kind
   pub rows : List (Key × ℕ)
 
--- the plan of the kind on the keys, over rows of which the numbers alone count
+-- the plan of the kind on the keys, over rows of which only the numbers count
 abbrev pub plan_of : Kind → List Key → Table → Planned
 plan_of kind keys t = record { kind = kind; rows = map (λ k. (k, number_of t k)) keys }
 
--- the keys that are left
+-- the keys of a plan that are left
 abbrev pub left : Planned → List Key
 left plan = map (λ p. p.0) plan.rows
 
--- the keys but for one
+-- the keys without the first that is this one
 abbrev pub without : Key → List Key → List Key
 without k [] = []
 without k (q ∷ keys) = if same_key k q then keys else q ∷ without k keys
 
--- the rows of a plan but for a key's
+-- the rows of a plan without the first of this key
 abbrev pub without_row : Key → List (Key × ℕ) → List (Key × ℕ)
 without_row k [] = []
 without_row k (p ∷ rows) = if same_key k p.0 then rows else p ∷ without_row k rows

@@ -4,7 +4,7 @@ ghost use Rattle.td_rows.specs.Kinds.{written};
 
 use td_rows::{Cells, Kind, cells_of};
 
-/// The cells that an entry of the kind writes: its own, but for a sweep's extra.
+/// The cells that an entry of the kind writes: its own, except a sweep's extra.
 pub fn written_by(kind: &Kind) -> Cells
     ensures { result ≡ written kind.now }
 {

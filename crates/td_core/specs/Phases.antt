@@ -15,7 +15,7 @@ is_pinned Open = false
 is_pinned (Held b) = false
 is_pinned p = true
 
--- an offered or claimed row needs a build; a row is built by a builder exactly where the journal
+-- an offered or claimed row needs a build; a row is built by a builder if and only if the journal
 -- knows its claim
 abbrev pub Suits : Phase → State → Type 0
 Suits Closed s = is_building s ≡ false

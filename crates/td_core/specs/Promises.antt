@@ -44,7 +44,8 @@ is_known_by b (Noted c) = b == c
 is_known_by b (Done c o) = b == c
 is_known_by b p = false
 
--- a row is built by a builder exactly there
+-- a row is built by a builder if and only if the journal knows that the builder claimed it, and not
+-- yet how its build ended
 abbrev pub BuiltExactly : Type 0
 BuiltExactly = (w : WorldView) (k : Key) (p : Phase) (row : Row) (b : ℕ) → IsWorld w
     → phase_of w k ≡ Some p → row_of (rows_of w.history) k ≡ Some row
@@ -62,7 +63,7 @@ builder_in (Noted b) = Some b
 builder_in (Done b o) = Some b
 builder_in p = None
 
--- it is one of the world's, which have the numbers from 1 on
+-- the builder who has a row is one of the world's, which have the numbers from 1 on
 abbrev pub BuildersAreThere : Type 0
 BuildersAreThere = (w : WorldView) (k : Key) (p : Phase) (b : ℕ) → IsWorld w → phase_of w k ≡ Some p
     → builder_in p ≡ Some b → (1 ≤ b) × (b ≤ length w.hands)
@@ -87,12 +88,13 @@ pub record StandingCommand (w : WorldView) (n : ℕ) (m : Marked) : Type 0 where
   pub stands : m.mark ≡ Standing
   pub command : is_command m.entry.kind ≡ true
 
--- its undo names an entry exactly where that is its blocker
+-- the undo of a standing command is refused for an entry if and only if that is its blocker
 abbrev pub BlockedExactly : Type 0
 BlockedExactly = (w : WorldView) (n : ℕ) (m : Marked) (b : ℕ) → StandingCommand w n m
     → (answer_to w (Undo n) ≡ Refused (Blocked b)) ↔ (blocker w.history.journal n ≡ Some b)
 
--- without a blocker, and with the rows pinned of which it has the state, it is accepted
+-- the undo of a standing command without a blocker is accepted, if the rows are pinned of which the
+-- command has the state
 abbrev pub UndoneElse : Type 0
 UndoneElse = (w : WorldView) (n : ℕ) (m : Marked) → StandingCommand w n m
     → blocker w.history.journal n ≡ None → first_unpinned w m.entry.kind m.entry.keys ≡ None
@@ -113,8 +115,8 @@ pub record IsUndone (w v : WorldView) (n : ℕ) (m : Marked) : Type 0 where
   pub command : is_command m.entry.kind ≡ true
   pub undone : entry_at v.history.journal n ≡ Some (record m { mark = Dropped })
 
--- a step leaves the opening rows and the entries and appends one entry at most;
--- the marks stay, but for that of the entry that it undoes
+-- a step leaves the opening rows and the entries and appends one entry at most; the marks stay,
+-- except that of the entry that it undoes
 pub record Stays (w : WorldView) (s : Step) (v : WorldView) : Type 0 where
   pub opening : v.history.opening ≡ w.history.opening
   pub added : Option Entry
@@ -124,7 +126,7 @@ pub record Stays (w : WorldView) (s : Step) (v : WorldView) : Type 0 where
   pub undone : (n : ℕ) (m : Marked) → entry_at w.history.journal n ≡ Some m → undoes w s n ≡ true
       → IsUndone w v n m
 
--- so it is of every step
+-- every step leaves the opening rows, the entries and the marks as `Stays` says
 abbrev pub EntriesStay : Type 0
 EntriesStay = (w : WorldView) (s : Step) → Stays w s (after w s)
 
@@ -133,7 +135,8 @@ abbrev pub undoes_among : WorldView → List Step → ℕ → Bool
 undoes_among w [] n = false
 undoes_among w (s ∷ steps) n = undoes w s n || undoes_among (after w s) steps n
 
--- the same of a list of steps: it appends no more entries than it has steps
+-- a list of steps leaves the opening rows and the entries and appends no more entries than it has
+-- steps; the marks stay, except those of the entries that it undoes
 pub record StaysAmong (w : WorldView) (steps : List Step) (v : WorldView) : Type 0 where
   pub opening : v.history.opening ≡ w.history.opening
   pub added : List Entry
@@ -144,7 +147,7 @@ pub record StaysAmong (w : WorldView) (steps : List Step) (v : WorldView) : Type
   pub undone : (n : ℕ) (m : Marked) → entry_at w.history.journal n ≡ Some m
       → undoes_among w steps n ≡ true → IsUndone w v n m
 
--- so it is of every list of steps
+-- every list of steps leaves the opening rows, the entries and the marks as `StaysAmong` says
 abbrev pub EntriesStayAmong : Type 0
 EntriesStayAmong = (w : WorldView) (steps : List Step) → StaysAmong w steps (after_all w steps)
 
@@ -162,8 +165,8 @@ abbrev pub ArrivalsAreOffered : Type 0
 ArrivalsAreOffered = (w : WorldView) (k : Key) → refusal w (Arrive k) ≡ None → supply_of
     (after w (Arrive k)) ≡ arrived (supply_of w) k.source k.arch (number_in (rows_of w.history) k)
 
--- a sweep frees a row exactly where it waits for what the offers meet,
--- and they meet what its rebuild needs beside it
+-- a sweep frees a row if and only if it waits for what the offers meet, and they meet what its
+-- rebuild needs in addition
 abbrev pub SweptExactly : Type 0
 SweptExactly = (w : WorldView) (k : Key) (row : Row) → IsWorld w → row_of (rows_of w.history) k
     ≡ Some row → (names (swept_now w) k ≡ true) ↔ (is_freed (supply_of w) (k, row) ≡ true)

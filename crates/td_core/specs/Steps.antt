@@ -108,7 +108,7 @@ abbrev pub answers_to : WorldView → List Step → List Answer
 answers_to w [] = []
 answers_to w (s ∷ steps) = answer_to w s ∷ answers_to (after w s) steps
 
--- the world after all of them
+-- the world after all of the steps
 abbrev pub after_all : WorldView → List Step → WorldView
 after_all w [] = w
 after_all w (s ∷ steps) = after_all (after w s) steps

@@ -19,8 +19,8 @@ use Rattle.td_core.specs.History.{History, rows_of, opened, with_entry}
 use Rattle.td_core.specs.Phases.{Suits}
 use Rattle.td_supply.specs.Supply.{Stock}
 
--- its rows are a function of the history, its offers one of the stock and the history;
--- the phases are those of the rows in order, the hands those of builders 1, 2 and so on
+-- a world: its rows are a function of the history, its offers one of the stock and the history; the
+-- phases are those of the rows in order, the hands those of builders 1, 2 and so on
 pub record WorldView : Type 0 where
   pub history : History
   pub supply : Stock
@@ -35,7 +35,7 @@ phase_of w k = slice_get w.phases (number_of w.history.opening k)
 abbrev pub with_phase : WorldView → Key → Phase → WorldView
 with_phase w k p = record w { phases = set w.phases (number_of w.history.opening k) p }
 
--- of these hands that of a builder, if there is one with the number
+-- the hand of a builder among these hands, if there is one with the number
 abbrev pub hand_in : List Hand → ℕ → Option Hand
 hand_in hands b = if b == 0 then None else slice_get hands (b - 1)
 
@@ -68,8 +68,8 @@ world_of t s builders = record {
   hands = replicate builders Free;
 }
 
--- who has a row in such a phase has it in hand:
--- who claimed it holds it, and who ended its build has ended it so
+-- who has a row by its phase has it in hand: who claimed it holds it, and who ended its build has
+-- ended it so
 abbrev pub InHand : List Hand → Key → Phase → Type 0
 InHand hands k Closed = Unit {0}
 InHand hands k Open = Unit {0}

@@ -56,7 +56,7 @@ pub enum Step {
 /// Why a step is refused.
 #[derive(Debug, PartialEq, Eq, Drop)]
 pub enum Refusal {
-    /// The key has no row. A commit names the first such of its keys.
+    /// The key has no row. A commit names the first of its keys that has none.
     NoSuchRow(Option<Key>),
     /// The row is offered already, or a builder has it.
     NotClosed,
@@ -74,9 +74,10 @@ pub enum Refusal {
     NotACommand,
     /// The keys don't strictly rise, or there are none.
     NoKeys,
-    /// The kind doesn't apply on the row of the first such of the keys.
+    /// The kind doesn't apply on the row of this key, the first for which that is so.
     DoesNotApply(Key),
-    /// The row of the first such of the keys is offered or claimed; of an undo, some row is.
+    /// The row of this key is offered or claimed, the first for which that is so; of an undo, some
+    /// row is.
     NotPinned(Option<Key>),
     /// No entry has the number.
     NoSuchEntry,
@@ -94,7 +95,7 @@ pub enum Refusal {
     NotFinished,
     /// How the build ended isn't journalled yet.
     NotSettled,
-    /// Want of memory.
+    /// Memory ran out.
     NoMemory,
 }
 

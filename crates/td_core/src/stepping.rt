@@ -205,7 +205,7 @@ impl World<'_> {
         }
     }
 
-    /// Takes a step, and answers want of memory as a refusal.
+    /// Takes a step; if memory runs out, it answers a refusal.
     pub fn step(&mut self, step: Step) -> Answer
         ensures taken { result ≢ Answer.Refused Refusal.NoMemory
             → (result ≡ answer_to self.old step) × (self.new ≡ after self.old step) }

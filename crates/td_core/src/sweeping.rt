@@ -24,7 +24,7 @@ fn is_freed(supply: &Supply<'_>, key: &Key, row: &Row) -> Result<bool, AllocErro
     supply.meets(row.extra.as_str(), key.arch())
 }
 
-// Adds the key behind the others if the offers free the row.
+// Adds the key after the others if the offers free the row.
 fn push_freed(
     keys: &mut Vec<Key>,
     supply: &Supply<'_>,

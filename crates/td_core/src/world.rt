@@ -45,7 +45,7 @@ impl<'a> Model for World<'a> {
     }) };
 }
 
-// So many closed phases.
+// This many closed phases.
 fn closed(alloc: Global, count: usize) -> Result<Vec<Phase>, AllocError>
     ensures { IfOk result (λ phases. phases.items ≡ replicate count Phase.Closed) }
 {
@@ -56,7 +56,7 @@ fn closed(alloc: Global, count: usize) -> Result<Vec<Phase>, AllocError>
     Ok(phases)
 }
 
-// So many free hands.
+// This many free hands.
 fn free(alloc: Global, count: usize) -> Result<Vec<Hand>, AllocError>
     ensures { IfOk result (λ hands. hands.items ≡ replicate count Hand.Free) }
 {
@@ -109,8 +109,8 @@ impl<'a> World<'a> {
         self.kept.journal()
     }
 
-    /// What is on offer now: the index's offers, and in place of those whose build has arrived,
-    /// the rebuild with the number that its row had then.
+    /// What is on offer now: the index's offers, and instead of those whose build has arrived, the
+    /// rebuild with the number that its row had then.
     pub fn supply(&self) -> &Supply<'a>
         ensures { result.now ≡ supply_of self.now }
     {

@@ -1,4 +1,4 @@
--- What is told of a script that a clerk answers beside builders. This project's own.
+-- The answers to a script by a clerk who works while builders build. This project's own.
 use Rattle.std.specs.Prelude.{◌≡◌, ◌⊎◌, ℕ, ◌+◌, ◌≤◌, false, true, List, [], ◌∷◌, ◌++◌, Option}
 use Rattle.std.specs.Prelude.{Some, None, ◌<◌, ◌^◌, IfSome, IsPermutation, codes, length}
 use Rattle.std.specs.Prelude.{if◌then◌else◌, map}

@@ -1,4 +1,4 @@
--- What the lines that a clerk answers at a desk ask of what tells the reports. This project's own.
+-- What the lines that a clerk answers at a desk ask of the reports. This project's own.
 use Rattle.std.specs.Prelude.{Option, IfSome}
 use Rattle.std.specs.Borrow.{Bor}
 use Rattle.td_rows.specs.Table.{Table}

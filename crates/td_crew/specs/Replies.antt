@@ -1,5 +1,5 @@
--- What a clerk beside builders says to a line: what a book of the desk answers, in the words of
--- scripts. This project's own.
+-- What a clerk says to a line while builders build: what a book of the desk answers, in the words
+-- of scripts. This project's own.
 use Rattle.std.specs.Prelude.{◌≡◌, ℕ, Bool, true, false, List, [], ◌∷◌, ◌++◌, Option, Some, None}
 use Rattle.std.specs.Prelude.{Result, Ok, Err, codes, decimal, string_bytes}
 use Rattle.std.specs.List.{flat_map}

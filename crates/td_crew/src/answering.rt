@@ -79,7 +79,7 @@ fn undo<N: Named, C: Ledger, R: Wait>(
     put_undo(out, n, desk.undo(rt, clerk, n).answer())
 }
 
-// The answer to an arrival. Its entry is told by the receipt.
+// The answer to an arrival. The receipt says which entry it made.
 #[tactic(auto, using(crate::proofs::Replied::parts_with))]
 fn arrive<N: Named, C: Ledger, R: Wait>(
     rt: &R,

@@ -75,7 +75,7 @@ fn tell_all<N: Named, C: Ledger, T: Reports, R: Wait>(
     }
 }
 
-// What is told of the lines while builders work on threads of their own, who are joined then. The
+// The answers to the lines while builders work on threads of their own, which are joined then. The
 // desk is shut, whatever came of it.
 fn tell_beside<N: Named + Send + Sync, C: Ledger + Send + Sync, T: Reports>(
     rt: &(impl Threads + Wait + Sync),

@@ -7,8 +7,8 @@ use std::marker::PhantomData;
 use td_builder::WorkStop;
 use td_desk::{Hired, Home, Homes, Named};
 
-/// That a builder stops, and for what. It is made of what is noted, where want of memory is noted
-/// if it is for that. It is no `Drop`, so it is counted: `Ends` alone takes it, with the builder's
+/// That a builder stops, and why. It is made of what is noted, and if the reason is that memory ran
+/// out, that was noted. It is no `Drop`, so it is counted: only `Ends` takes it, with the builder's
 /// seat.
 pub struct Stopped<N: Named> {
     why: WorkStop,
@@ -16,7 +16,7 @@ pub struct Stopped<N: Named> {
 }
 
 impl<N: Named> Stopped<N> {
-    // By what is noted.
+    // The stop of a builder for this reason, by what is noted.
     fn of(ends: &Ends<N>, why: WorkStop) -> Stopped<N>
         requires { why ≡ WorkStop.NoMemory → ends.now.wants_memory ≡ true }
         ensures { result.why ≡ why }

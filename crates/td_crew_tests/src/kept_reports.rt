@@ -73,7 +73,7 @@ fn counts(
     Ok(counts)
 }
 
-// The report of these rows by such counts, as each call makes it.
+// The report of these rows by the counts, as each call makes it.
 pub(crate) fn are_reported(
     rt: &(impl Threads + Abort + Sync),
     alloc: Global,

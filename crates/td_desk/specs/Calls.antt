@@ -118,7 +118,7 @@ Starting seat table origin result =
     × StartOutcome seat.builder.number seat.builder.hand old new result
 
 -- what a book answers to a finish with this outcome, and the builder after it; but if memory runs
--- out before the book is asked, a builder whose hand isn't free is told so, and all stays
+-- out before the book is asked, a builder whose hand isn't free gets that answer, and all stays
 abbrev pub FinishTold : Outcome → BuilderView → BuilderView → BookModel → BookModel
     → Result ℕ FinishRefusal → Type 0
 FinishTold outcome v w old new result =
@@ -147,20 +147,21 @@ MayStart table origin s job =
     (row : ℕ) × (b : BookModel) × (s.builder.hand ≡ Holding row) × IsOfDesk table origin b
     × IsJobAt row b job
 
--- a book of the desk was told by the builder of a seat, as it was, that the build of the row in
--- hand ended with this outcome, text included, and the builder's build ended; it answered so
+-- the builder of a seat, as it was, told a book of the desk that the build of the row in hand ended
+-- with this outcome, text included, and the builder's build ended; the book answered so
 abbrev pub IsToldEnd : TableId → Origin → BuilderModel → Outcome → Result ℕ FinishRefusal → Type 0
 IsToldEnd table origin s outcome answer =
     (row : ℕ) × (old : BookModel) × (new : BookModel) × (s.builder.hand ≡ Holding row)
     × IsOfDesk table origin old
     × FinishHeld row outcome s.builder (with_finish row (code_of outcome) s.builder) old new answer
 
--- the outcomes with which the build of the row in a seat's hand may end: a book of the desk was
--- told so, and journalled it
+-- the outcomes with which the build of the row in a seat's hand may end: the builder told one to a
+-- book of the desk, which journalled it
 abbrev pub MayEnd : TableId → Origin → BuilderModel → Outcome → Type 0
 MayEnd table origin s outcome = (n : ℕ) × IsToldEnd table origin s outcome (Ok n)
 
--- the outcomes with which that build may break off: a book of the desk was told so, and refused it
+-- the outcomes with which the build of the row in a seat's hand may break off: the builder told one
+-- to a book of the desk, which refused it
 abbrev pub MayBreakOff : TableId → Origin → BuilderModel → Outcome → Type 0
 MayBreakOff table origin s outcome =
     (refusal : FinishRefusal) × IsToldEnd table origin s outcome (Err refusal)

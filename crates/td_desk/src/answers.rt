@@ -52,7 +52,7 @@ impl<N: Named> Tells<Result<Job, StartRefusal>> for Started<N> {
     }
 }
 
-/// The answer to the end of a build, and the outcome that the book was told.
+/// The answer to the end of a build, and the outcome that the builder told the book.
 pub struct Ended<N: Named> {
     answer: Result<EntryNo, FinishRefusal>,
     outcome: Snapshot<Outcome>,

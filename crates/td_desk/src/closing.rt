@@ -70,7 +70,8 @@ impl<'a, N: Named, C: Ledger> Desk<'a, N, C> {
     }
 }
 
-// Does nothing. Tells that clerks who have all parts have as many receipts as the ledger counts.
+// Does nothing. Its clause says that clerks who have all parts have as many receipts as the ledger
+// counts.
 fn audit<C: Ledger>(ledger: &mut ledger::Book<C>, clerks: &mut Vec<Clerk<C>>)
     ensures clerks { clerks.new.items ≡ clerks.old.items }
     ensures total { ledger.new.total ≡ ledger.old.total }

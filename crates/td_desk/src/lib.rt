@@ -1,4 +1,4 @@
-//! The desk: a book under a lock, and clerks who are told what they changed.
+//! The desk: a book under a lock, and clerks who get receipts of what they changed.
 //!
 //! Start at `Desk`. `open` begins one before the first entry, `reopen` over a journal's text. Its
 //! calls are those of the book, each under the lock; `claim`, by which a builder takes a row, needs

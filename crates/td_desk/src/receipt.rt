@@ -8,7 +8,7 @@ use crate::matching::{same_keys, same_kind};
 use td_journal::{Entry, EntryNo, Keys};
 use td_rows::Kind;
 
-/// What a clerk was told of a change.
+/// What a clerk learns of a change that it made.
 #[derive(Drop)]
 pub enum Receipt {
     /// An entry was made, of a command or an arrival, on these keys.

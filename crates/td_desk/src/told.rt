@@ -1,4 +1,4 @@
-//! What a clerk is told of a command's rows.
+//! What a clerk learns of a command's rows.
 ghost use Rattle.std.specs.Prelude.{◌≡◌, ◌≤◌, [], length, vec_capacity, true, IfOk};
 ghost use Rattle.td_rows.specs.Keys.{ascending};
 ghost use Rattle.td_rows.specs.Table.{keys_of};

@@ -55,7 +55,7 @@ fn a_builder_works_until_nothing_is_ready(rt: HostRuntime) -> Result<(), Fail> {
 }
 
 // A builder in turn with a clerk, who makes a call each time that the builder has tried what was
-// ready. After the calls comes what was told meanwhile: each job with its row, and each call's
+// ready. After the calls comes what was answered meanwhile: each job with its row, and each call's
 // entry. After `refuse` each finish is refused once the desk took it.
 const TURNS: [Played<'static>; 5] = [
     (

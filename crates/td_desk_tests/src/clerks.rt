@@ -1,5 +1,5 @@
-//! What clerks are told, what they read at the desk, and when it is closed. Expected answers are by
-//! hand from the tables of `docs/FORMATS.md`.
+//! What clerks learn, what they read at the desk, and when it is closed. Expected answers are
+//! by hand from the tables of `docs/FORMATS.md`.
 use crate::sample::INSTALLED;
 use crate::shop::{Played, all_leave, all_leave_with};
 use crate::tries::Tries;

@@ -103,7 +103,7 @@ fn have_a_row_in_common(book: &Book<'_>, n: EntryNo, m: EntryNo) -> bool {
     keys_of(book, n).iter().any(|key| is_in(key, keys))
 }
 
-// Whether the clerk was told before that the entry is undone.
+// Whether one of the receipts says that the entry was undone.
 fn has_undone(receipts: &[Receipt], n: EntryNo) -> bool {
     receipts
         .iter()

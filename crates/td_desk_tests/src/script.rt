@@ -169,7 +169,8 @@ fn end<N: Named, C: Ledger, R: Wait>(
     shown(people.alloc, &people.end(rt, desk, outcome))
 }
 
-// The answer to a line by which clerks do something among themselves, or to any of those.
+// The answer to a line by which clerks do something among themselves, or else to one that the desk
+// answers.
 fn meet<N: Named, C: Ledger, R: Wait>(
     rt: &R,
     desk: &Desk<'static, N, C>,

@@ -57,7 +57,7 @@ fn are_free(seats: &[BuilderSeat]) -> bool {
     true
 }
 
-// Whether a board is made with just so many rows and builders, as it and its seats say.
+// Whether a board is made with exactly this many rows and builders, as it and its seats say.
 fn is_made(alloc: Global, rows: usize, builders: usize) -> Result<bool, Fail> {
     let (board, desk, seats) = Board::make(alloc, rows, builders)?;
     let has_rows = board.rows() == rows && desk.rows() == rows;

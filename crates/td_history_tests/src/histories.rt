@@ -42,10 +42,10 @@ pub(crate) fn keys(alloc: Global, text: &str) -> Result<KeyList, Fail> {
     Ok(KeyList::new(keys))
 }
 
-/// What a rebuild of the tests needs beside it, 24 bytes.
+/// What a rebuild of the tests needs in addition, 24 bytes.
 const REBUILT: &str = "libbar-dev (>= 2.0-1+b1)";
 
-// A command: `dw` waits for libbar-dev, and `nmu` needs it rebuilt beside.
+// A command: `dw` waits for libbar-dev, and `nmu` needs it rebuilt in addition.
 fn kind(alloc: Global, word: &str) -> Result<Kind, Fail> {
     match word {
         "dw" => Ok(Kind::Dw(Line::new(alloc, "libbar-dev")?)),
@@ -58,7 +58,7 @@ fn kind(alloc: Global, word: &str) -> Result<Kind, Fail> {
     }
 }
 
-// A step of the desk by its word and what stands behind it.
+// A step of the desk by its word and what follows it.
 fn step(alloc: Global, spelled: &str) -> Result<Step, Fail> {
     if spelled == "sweep" {
         return Ok(Step::Sweep);

@@ -1,4 +1,4 @@
--- The version and the relation that are told as bad are the first that are.
+-- The version and the relation that are named as bad are the first that are.
 use Rattle.std.proofs.Common.{◌≡◌, ℕ, ◌≤◌, Bool, true, false, cond, eqb, List, [], Option}
 use Rattle.std.proofs.Common.{Some}
 use Rattle.std.proofs.Common.{None, Result, Ok, Err, length, refl, sym, ap, subst, ◌∙◌, inl, inr}

@@ -1,4 +1,4 @@
--- The fields that a stanza of either file needs are read first, whatever is read behind them.
+-- The fields that a stanza of either file needs are read first, whatever is read after them.
 use Rattle.std.proofs.Common.{◌≡◌, ◌⊎◌, ℕ, Bool, true, false, cond, List, Option, Some, None}
 use Rattle.std.proofs.Common.{Result, Ok, Err, refl, sym, ap, ◌∙◌, inl, inr}
 use Rattle.std.specs.Prelude.{codes}

@@ -1,4 +1,5 @@
--- Of the rows with which a desk opens: no builder has one, and the version of each one's source is
+-- The rows with which a desk opens: no builder has one, and the version of each one's source is
+-- known.
 -- known.
 use Rattle.std.proofs.Common.{◌≡◌, ℕ, Bool, false, List, [], ◌∷◌, Option, Some, None, Result, Ok}
 use Rattle.std.proofs.Common.{Err, map, option_map, refl, sym, ap, subst, ◌∙◌, inl, inr}

@@ -1,4 +1,4 @@
--- What parts of the stanzas of Packages come to, one part behind the other.
+-- What parts of the stanzas of Packages come to, one part after the other.
 use Rattle.std.proofs.Common.{◌≡◌, ℕ, List, [], ◌∷◌, ◌++◌, Some, Result, Ok}
 use Rattle.std.proofs.Common.{arith, length, sym, ap, ◌∙◌, subst}
 use Rattle.std.specs.Global.{Vec}

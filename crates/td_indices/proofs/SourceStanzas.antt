@@ -1,4 +1,4 @@
--- Stanzas are kept as packages and as sources exactly where they are.
+-- Stanzas are kept as packages and as sources if and only if they are.
 use Rattle.std.proofs.Common.{◌≡◌, ◌≢◌, ℕ, Bool, true, false, cond, List, Option, Some, None}
 use Rattle.std.proofs.Common.{Result, Ok, refl, sym, ap, subst, ◌∙◌, inl, inr}
 use Rattle.std.specs.Prelude.{codes}

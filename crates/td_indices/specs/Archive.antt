@@ -41,7 +41,7 @@ pub record Contents : Type 0 where
 abbrev pub source_named : Contents → List ℕ → Option KeptSource
 source_named a name = find (λ s. bytes_eq name s.head.name) a.sources
 
--- its number, from 0
+-- the number of the source of a name, from 0
 abbrev pub number_named : Contents → List ℕ → Option ℕ
 number_named a name = position (λ s. bytes_eq name s.head.name) a.sources
 
@@ -62,7 +62,7 @@ numbers_of a source = places_from (is_of source) 0 a.binaries
 abbrev pub is_of_on : List ℕ → ℕ → KeptBinary → Bool
 is_of_on source arch b = is_of source b && is_on arch b.head.home
 
--- their numbers
+-- the numbers of the source's binary packages on an architecture
 abbrev pub binaries_on : Contents → List ℕ → ℕ → List ℕ
 binaries_on a source arch = places_from (is_of_on source arch) 0 a.binaries
 
@@ -102,7 +102,7 @@ pub record HasTooManyRows (table : List ArchWords)
   pub sources : sources_at contents.source_stanzas ≡ Ok contents.sources
   pub beyond : max_rows < row_count table contents.sources
 
--- the fault of a text as a control file; want of memory may stand in place of any answer
+-- what a fault says of two texts; `NoMemory` may be the answer for any texts
 abbrev pub FaultOf : List ArchWords → List (List ℕ) → List (List ℕ) → ArchiveFault → Type 0
 FaultOf table packages sources (Stanza Packages fault) = HasFault fault packages
 FaultOf table packages sources (Stanza Sources fault) =
@@ -123,9 +123,9 @@ IsRefusedFor fault (Err e) = (e ≡ NoMemory) ⊎ (e ≡ fault)
 
 -- ---- 4. what the reading of two texts comes to
 
--- it is that of these lines, with the table of architectures: what is read is an archive; an
--- archive is read, unless memory runs out; a refusal names a fault; and a fault is refused, unless
--- memory runs out
+-- the answer of the reading of these lines, with the table of architectures: what is read is an
+-- archive; an archive is read, unless memory runs out; a refusal names a fault; and a fault is
+-- refused, unless memory runs out
 pub record IsRead (table : List ArchWords) (package_lines source_lines : List (List ℕ))
     (read : Result Contents ArchiveFault) : Type 0 where
   pub found : IfOk read (IsArchive table package_lines source_lines)

@@ -1,4 +1,4 @@
--- Which version of a stanza is told as bad, and which of its relations: the first that is. That
+-- Which version of a stanza is named as bad, and which of its relations: the first that is. That
 -- order is this project's own.
 use Rattle.std.specs.Prelude.{◌≡◌, ◌≢◌, ◌↔◌, ℕ, false, List, Some, Err, codes}
 use Rattle.td_stanza.specs.Field.{Entry}
@@ -30,18 +30,18 @@ abbrev pub HasVersion : List Entry → Type 0
 HasVersion fields = (text : List ℕ) × (parts : Parts)
     × (value_of fields (codes "Version") ≡ Some text) × IsVersion text parts
 
--- it is there and is none
+-- the field Version is there and is no version
 abbrev pub HasBadVersion : List Entry → Type 0
 HasBadVersion fields = (text : List ℕ) × (value_of fields (codes "Version") ≡ Some text)
     × ((parts : Parts) → IsVersion text parts → ⊥)
 
--- the version in this field may be told as bad: the package's own if it is none, and its source's
+-- the version in this field may be named as bad: the package's own if it is none, and its source's
 -- only if the package's own is one
 abbrev pub MayBeBad : List Entry → VersionField → Type 0
 MayBeBad fields Version = HasBadVersion fields
 MayBeBad fields Source = HasVersion fields
 
--- a package's own version is told as bad before its source's
+-- a package's own version is named as bad before its source's
 abbrev pub PackageVersionsComeInOrder : Type 0
 PackageVersionsComeInOrder = (table : List ArchWords) (number : ℕ) (fields : List Entry)
     (field : VersionField) → binary_at table number fields ≡ Err (BadVersion field)
@@ -49,17 +49,17 @@ PackageVersionsComeInOrder = (table : List ArchWords) (number : ℕ) (fields : L
 
 -- ---- 2. relations
 
--- the field is there, not of whitespace alone, and no relation
+-- the field is there, has more than whitespace, and is no relation
 abbrev pub IsUnread : List Entry → RelationField → Type 0
 IsUnread fields field = (text : List ℕ) × (value_of fields (relation_field_name field) ≡ Some text)
     × (is_blank text ≡ false) × ((asked : List (List Asked)) → IsRelation text asked → ⊥)
 
--- the field is a relation, or of whitespace alone, or not there
+-- the field is a relation, or has only whitespace, or isn't there
 abbrev pub IsReadable : List Entry → RelationField → Type 0
 IsReadable fields field = (text : List ℕ) → value_of fields (relation_field_name field) ≡ Some text
     → is_blank text ≡ false → (asked : List (List Asked)) × IsRelation text asked
 
--- of a package's relations the first that is none
+-- the field is the first of a package's relations that is none
 abbrev pub IsFirstUnread : List Entry → RelationField → Type 0
 IsFirstUnread fields Depends = IsUnread fields Depends
 IsFirstUnread fields PreDepends = IsReadable fields Depends × IsUnread fields PreDepends
@@ -68,14 +68,14 @@ IsFirstUnread fields Provides =
 IsFirstUnread fields BuildDepends = ⊥
 IsFirstUnread fields BuildDependsArch = ⊥
 
--- a relation of a package is told as bad if and only if all else of the package can be read and it
+-- a relation of a package is named as bad if and only if all else of the package can be read and it
 -- is the first that is none
 abbrev pub BadPackageRelationsAreExact : Type 0
 BadPackageRelationsAreExact = (table : List ArchWords) (number : ℕ) (fields : List Entry)
     (field : RelationField) → (binary_at table number fields ≡ Err (BadRelation field))
     ↔ ((p : BinaryPackage) × IsPackage table fields p × IsFirstUnread fields field)
 
--- of the relations of a source's build the first that is none
+-- the field is the first of the relations of a source's build that is none
 abbrev pub IsFirstUnreadBuild : List Entry → RelationField → Type 0
 IsFirstUnreadBuild fields Depends = ⊥
 IsFirstUnreadBuild fields PreDepends = ⊥
@@ -93,8 +93,8 @@ pub record HasHead (fields : List Entry) : Type 0 where
   pub parts : Parts
   pub readable : IsVersion version parts
 
--- a relation of a source is told as bad if and only if all else of the source can be read and it is
--- the first that is none
+-- a relation of a source is named as bad if and only if all else of the source can be read and it
+-- is the first that is none
 abbrev pub BadSourceRelationsAreExact : Type 0
 BadSourceRelationsAreExact = (number : ℕ) (fields : List Entry) (field : RelationField)
     → (kept_source_at number fields ≡ Err (BadRelation field))

@@ -28,13 +28,13 @@ home_of table arch =
 
 -- ---- 2. its source
 
--- the name before a version in brackets; whitespace may stand behind it
+-- the name before a version in brackets; whitespace may come after it
 unfoldable pub front_name : List ℕ → Option (List ℕ)
 front_name front =
     if is_name (run is_name_byte front) && is_blank (behind is_name_byte front)
     then Some (run is_name_byte front) else None
 
--- the name, and what stands behind the bracket
+-- the name before the bracket, if there is one, and what comes after the bracket
 abbrev pub named_front : Option (List ℕ) → List ℕ → Result (List ℕ × Option (List ℕ)) EntryFault
 named_front None rest = Err (Missing field.Source)
 named_front (Some name) rest = Ok (name, Some rest)
@@ -45,13 +45,13 @@ abbrev pub source_text : List ℕ → Option (List ℕ × List ℕ)
 source_text text None = if is_name text then Ok (text, None) else Err (Missing field.Source)
 source_text text (Some p) = named_front (front_name p.0) p.1
 
--- the source's name, and what stands behind the bracket, if there is one; without the field the
+-- the source's name, and what comes after the bracket, if there is one; without the field the
 -- source has the package's name (Debian Policy 5.6.1)
 unfoldable pub origin_of : List ℕ → Option (List ℕ) → Result (List ℕ × Option (List ℕ)) EntryFault
 origin_of name None = Ok (name, None)
 origin_of name (Some text) = source_text text (cut 40 text)
 
--- the version up to the closing bracket, behind which nothing stands
+-- the version up to the closing bracket, after which nothing comes
 abbrev pub bracketed : Option (List ℕ × List ℕ) → Result Parts EntryFault
 bracketed None = Err (BadVersion Source)
 bracketed (Some p) = if length p.1 == 0 then version_in Source p.0 else Err (BadVersion Source)
@@ -116,12 +116,12 @@ headed h = record {
   source_parts = parts_of h.source_parts;
 }
 
--- that package, or the stanza's fault
+-- the package of a stanza's head, or the stanza's fault
 abbrev pub head_found : Result Head EntryFault → Result BinaryPackage EntryFault
 head_found (Ok head) = Ok (headed head)
 head_found (Err fault) = Err fault
 
--- the same where the package may not be here
+-- the package of a stanza's head, if the package is here, or the stanza's fault
 abbrev pub heads_found : Result (Option Head) EntryFault → Result (Option BinaryPackage) EntryFault
 heads_found (Ok head) = Ok (option_map headed head)
 heads_found (Err fault) = Err fault

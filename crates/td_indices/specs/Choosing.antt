@@ -11,20 +11,20 @@ use Rattle.td_indices.specs.Archive.{Contents}
 use Rattle.td_indices.specs.Opening.{opening_row}
 use Rattle.td_indices.specs.Sources.{KeptSource}
 
--- of sources, those whose flag is set, where the first flag is of the first one; beyond the flags
--- none is
+-- the sources whose flag is set; the first flag is that of the first source, and beyond the flags
+-- no source is chosen
 abbrev pub flagged : List Bool → List KeptSource → List KeptSource
 flagged [] sources = []
 flagged (flag ∷ flags) [] = []
 flagged (flag ∷ flags) (s ∷ sources) =
     if flag then s ∷ flagged flags sources else flagged flags sources
 
--- without flags each is chosen
+-- the sources that the flags choose; without flags each is chosen
 abbrev pub chosen : Option (List Bool) → List KeptSource → List KeptSource
 chosen None sources = sources
 chosen (Some flags) sources = flagged flags sources
 
--- whether the one with a number is
+-- whether the source with a number is chosen
 abbrev pub is_chosen : Option (List Bool) → ℕ → Bool
 is_chosen None number = true
 is_chosen (Some flags) number = option_map_or (λ flag. flag) (slice_get flags number) false

@@ -1,4 +1,4 @@
--- Of several stanzas of one key, one counts. This project's own.
+-- One of several stanzas of one key counts. This project's own.
 use Rattle.std.specs.Prelude.{◌≡◌, ◌↔◌, ℕ, ◌+◌, Bool, true, false, List, [], ◌∷◌, ◌++◌, Option}
 use Rattle.std.specs.Prelude.{Some, None, Result, Ok}
 use Rattle.std.specs.List.{list_any, AllByRecursion}
@@ -11,8 +11,8 @@ use Rattle.td_indices.specs.Kept.{KeptBinary, binary_at, same_package, lower_pac
 use Rattle.td_indices.specs.Reading.{binaries_at, sources_at}
 use Rattle.td_indices.specs.Sources.{KeptSource, kept_source_at, same_source, lower_source}
 
--- an item counts where each of its key before it is lower, and it is lower than none behind it: the
--- greatest version, and the first of those that are equal in order
+-- an item counts if each one of its key before it is lower, and it is lower than none of its key
+-- after it: the greatest version, and the first of those that are equal in order
 pub record Counts {A : Type 0} (same lower : A → A → Bool) (items : List A) (x : A) : Type 0 where
   pub before : List A
   pub after : List A
@@ -52,29 +52,29 @@ GreatestPackagesAreKept =
     (items : List KeptBinary) × AreItems (binary_at table) 0 stanzas items
     × AreKept same_package lower_package items kept
 
--- and so are the sources that stanzas of Sources keep
+-- the sources that stanzas of Sources keep are those that count
 abbrev pub GreatestSourcesAreKept : Type 0
 GreatestSourcesAreKept =
     (stanzas : List (List Entry)) (kept : List KeptSource) → sources_at stanzas ≡ Ok kept →
     (items : List KeptSource) × AreItems kept_source_at 0 stanzas items
     × AreKept same_source lower_source items kept
 
--- two packages have one key exactly where they have one name and are in one place ..
+-- two packages have one key if and only if they have one name and are in one place
 abbrev pub PackageKeysAreExact : Type 0
 PackageKeysAreExact =
     (a b : KeptBinary)
     → (same_package a b ≡ true) ↔ ((a.head.name ≡ b.head.name) × (a.head.home ≡ b.head.home))
 
--- .. two sources where they have one name
+-- two sources have one key if and only if they have one name
 abbrev pub SourceKeysAreExact : Type 0
 SourceKeysAreExact = (a b : KeptSource) → (same_source a b ≡ true) ↔ (a.head.name ≡ b.head.name)
 
--- the one is lower exactly where its own version is less in order than the other's
+-- a package is lower than another if and only if its own version is less in order than the other's
 abbrev pub LowerPackagesAreExact : Type 0
 LowerPackagesAreExact =
     (a b : KeptBinary) → (lower_package a b ≡ true) ↔ (version_cmp a.head.parts b.head.parts ≡ Less)
 
--- of two sources the one is lower exactly where its version is less in order than the other's
+-- a source is lower than another if and only if its version is less in order than the other's
 abbrev pub LowerSourcesAreExact : Type 0
 LowerSourcesAreExact =
     (a b : KeptSource) → (lower_source a b ≡ true) ↔ (version_cmp a.head.parts b.head.parts ≡ Less)

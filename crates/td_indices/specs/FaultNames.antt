@@ -6,7 +6,7 @@ use Rattle.td_indices.specs.declared.archive_fault.ArchiveFault.TheVariants.{Bad
 use Rattle.td_indices.specs.declared.archive_fault.ArchiveFault.TheVariants.{BadRelation}
 use Rattle.td_indices.specs.declared.archive_fault.ArchiveFault.TheVariants.{TooManyRows, NoMemory}
 
--- the name alone, without the place and the field
+-- only the name of a fault, without the place and the field
 abbrev pub name_of : ArchiveFault → List ℕ
 name_of (Stanza file fault) = codes "Stanza"
 name_of (MissingField file number field) = codes "MissingField"

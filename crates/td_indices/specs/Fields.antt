@@ -71,7 +71,7 @@ abbrev pub unread_relation : RelationField → RelationFault → EntryFault
 unread_relation field relation.NoMemory = NoMemory
 unread_relation field fault = BadRelation field
 
--- what a relation field asks: nothing where it isn't there, or has whitespace alone (that it may is
+-- what a relation field asks: nothing if it isn't there, or has only whitespace (that it may is
 -- this project's own)
 abbrev pub relation_in : RelationField → Option (List ℕ) → Result (List (List Asked)) EntryFault
 relation_in field None = Ok []
@@ -99,11 +99,11 @@ abbrev pub asked_by : Option Relation → List (List Asked)
 asked_by None = []
 asked_by (Some relation) = members relation
 
--- whether it is want of memory
+-- whether a fault is that memory ran out
 abbrev pub is_want : EntryFault → Bool
 is_want NoMemory = true
 is_want fault = false
 
--- a fault is the reading's, unless it is want of memory
+-- a fault is the reading's, unless it is that memory ran out
 abbrev pub Fails : {A : Type 0} → Result A EntryFault → EntryFault → Type 0
 Fails read fault = is_want fault ≡ false → read ≡ Err fault

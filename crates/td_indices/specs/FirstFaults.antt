@@ -25,13 +25,13 @@ pub record IsFirstFaulty {A : Type 0} (at : ℕ → List Entry → Result (Optio
   pub faulty : at (length before) stanza ≡ Err own
   pub named : fault ≡ at_stanza file (length before) own
 
--- of Packages
+-- the fault of stanzas of Packages is that of the first that can't be kept
 abbrev pub FirstFaultyPackageIsNamed : Type 0
 FirstFaultyPackageIsNamed =
     (table : List ArchWords) (stanzas : List (List Entry)) (fault : ArchiveFault)
     → binaries_at table stanzas ≡ Err fault → IsFirstFaulty (binary_at table) Packages stanzas fault
 
--- and of Sources
+-- the fault of stanzas of Sources is that of the first that can't be kept
 abbrev pub FirstFaultySourceIsNamed : Type 0
 FirstFaultySourceIsNamed =
     (stanzas : List (List Entry)) (fault : ArchiveFault) → sources_at stanzas ≡ Err fault

@@ -56,8 +56,8 @@ lower_package a b = is_lt (version_cmp a.head.parts b.head.parts)
 
 -- ---- 2. of several, one
 
--- one more of the items: in the place of the earlier one of its key where that is lower, and behind
--- all where there is none
+-- one more of the items: instead of the earlier one of its key if that is lower, and after all if
+-- there is none of its key
 abbrev pub put : {A : Type 0} → (A → A → Bool) → (A → A → Bool) → List A → A → List A
 put same lower [] x = x ∷ []
 put same lower (y ∷ ys) x =

@@ -1,4 +1,4 @@
--- Which field of a stanza is told as missing: the first that is, of Package, Version, Architecture
+-- Which field of a stanza is named as missing: the first that is, of Package, Version, Architecture
 -- and Source. That order is this project's own; what the fields hold is Debian Policy 5.3, 5.4 and
 -- 5.6.1.
 use Rattle.std.specs.Prelude.{◌≡◌, ◌≢◌, ◌↔◌, ℕ, IsTrue, false, List, ◌++◌, Option, Some, None, Err}
@@ -22,12 +22,12 @@ abbrev pub IsNamed : List Entry → Type 0
 IsNamed fields = (name : List ℕ) × (value_of fields (codes "Package") ≡ Some name)
     × IsTrue (is_name name)
 
--- whatever stands there is none
+-- the field Package has no legal name, or isn't there
 abbrev pub IsNameless : List Entry → Type 0
 IsNameless fields =
     (name : List ℕ) → value_of fields (codes "Package") ≡ Some name → is_name name ≡ false
 
--- of a stanza's three first fields the first that is missing, where Source is missing as given
+-- this field of a stanza is the first that is missing; when Source is, is given
 abbrev pub IsFirstMissing : List Entry → Type 0 → IndexField → Type 0
 IsFirstMissing fields source Package = IsNameless fields
 IsFirstMissing fields source Version =
@@ -37,7 +37,7 @@ IsFirstMissing fields source Architecture =
     × (value_of fields (codes "Architecture") ≡ None)
 IsFirstMissing fields source Source = source
 
--- a text that is neither a legal name, nor one with a bracket behind it
+-- a text that is neither a legal name, nor one with a bracket after it
 pub record NamesNoSource (text : List ℕ) : Type 0 where
   pub no_name : is_name text ≡ false
   pub no_front : (source space rest : List ℕ) → text ≡ source ++ (space ++ (codes "(" ++ rest))
@@ -54,14 +54,15 @@ pub record LacksSource (table : List ArchWords) (fields : List Entry) : Type 0 w
   pub there : value_of fields (codes "Source") ≡ Some text
   pub unnamed : NamesNoSource text
 
--- a field of a package is told as missing exactly where it is the first
+-- a field of a package is named as missing if and only if it is the first that is
 abbrev pub MissingPackageFieldsAreExact : Type 0
 MissingPackageFieldsAreExact =
     (table : List ArchWords) (number : ℕ) (fields : List Entry) (field : IndexField)
     → (binary_at table number fields ≡ Err (Missing field))
     ↔ IsFirstMissing fields (LacksSource table fields) field
 
--- so it is with a source that isn't extra, of which no Source field is read
+-- a field of a source is named as missing if and only if the source isn't extra and the field is
+-- the first that is; no Source field is read
 abbrev pub MissingSourceFieldsAreExact : Type 0
 MissingSourceFieldsAreExact =
     (number : ℕ) (fields : List Entry) (field : IndexField)

@@ -1,4 +1,4 @@
--- Of what each offer of an archive comes: Debian Policy 7.5; that other restrictions than `(= v)`
+-- What each offer of an archive comes from: Debian Policy 7.5; that other restrictions than `(= v)`
 -- offer nothing is this project's own.
 use Rattle.std.specs.Prelude.{◌≡◌, ◌⊎◌, ◌↔◌, [], ◌∷◌, Option, Some, None, Contains}
 use Rattle.td_version.specs.Version.{Parts}
@@ -38,6 +38,6 @@ pub record ComesOf (a : Contents) (o : Supplied) : Type 0 where
   pub kept : Contains a.binaries binary
   pub offered : IsItself a binary o ⊎ IsProvidedBy binary o
 
--- an archive puts an offer on offer exactly where it comes of one of its packages
+-- an archive puts an offer on offer if and only if it comes of one of its packages
 abbrev pub OffersAreExact : Type 0
 OffersAreExact = (a : Contents) (o : Supplied) → Contains (supply_of a).offers o ↔ ComesOf a o

@@ -12,11 +12,11 @@ use Rattle.td_indices.specs.declared.offered_names.OfferedNames.{OfferedNames}
 abbrev pub provided_names : List Asked → List (List ℕ)
 provided_names member = map (λ o. o.name) (provided None member)
 
--- its own name, and those that it provides
+-- a package's own name, and those that it provides
 abbrev pub offered_names : KeptBinary → List (List ℕ)
 offered_names b = b.head.name ∷ flat_map provided_names b.provides
 
--- they are the names of what it puts on offer, whatever the sources
+-- the names that a package offers are those of what it puts on offer, whatever the sources
 abbrev pub NamesAreThoseOfOffers : Type 0
 NamesAreThoseOfOffers =
     (sources : List KeptSource) (b : KeptBinary)

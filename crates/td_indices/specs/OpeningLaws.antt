@@ -22,7 +22,8 @@ pub record IsBuiltThere (a : Contents) (s : KeptSource) (place : ℕ) (b : KeptB
   pub there : b.head.home ≡ Some place
   pub current : version_cmp b.head.source_parts s.head.parts ≡ Equal
 
--- the row is Installed with the rebuild number of such a package, and none has a greater
+-- the row is Installed with the rebuild number of a package that was built there from the source's
+-- version, and none of these has a greater
 pub record IsBuilt (a : Contents) (s : KeptSource) (place : ℕ) (row : Row) : Type 0 where
   pub binary : KeptBinary
   pub built : IsBuiltThere a s place binary
@@ -37,12 +38,13 @@ pub record IsBuilt (a : Contents) (s : KeptSource) (place : ℕ) (row : Row) : T
         extra = blank.extra;
       }
 
--- there is no such package, and the row is blank
+-- no package was built there from the source's version, and the row is blank
 pub record IsUnbuilt (a : Contents) (s : KeptSource) (place : ℕ) (row : Row) : Type 0 where
   pub none : (b : KeptBinary) → ¬ IsBuiltThere a s place b
   pub blank_row : row ≡ blank
 
--- the source with the key's name has a row on the architecture with its name, and it opens so
+-- the source with the key's name has a row on the architecture with its name, and the row is
+-- Installed or blank by the packages that were built there
 pub record IsOpening (a : Contents) (k : Key) (row : Row) : Type 0 where
   pub source : KeptSource
   pub place : ℕ
@@ -51,7 +53,7 @@ pub record IsOpening (a : Contents) (k : Key) (row : Row) : Type 0 where
   pub has : IsTrue (has_row a.table source.head.archs place)
   pub opens : IsBuilt a source place row ⊎ IsUnbuilt a source place row
 
--- a key opens with a row exactly where this is so
+-- a key opens with a row if and only if that is the row by the packages that were built
 abbrev pub OpeningRowsAreExact : Type 0
 OpeningRowsAreExact =
     (a : Contents) (k : Key) (row : Row) → (opening_row a k ≡ Some row) ↔ IsOpening a k row

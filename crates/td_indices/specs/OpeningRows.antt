@@ -18,11 +18,12 @@ is_key_at table source place k =
     bytes_eq k.source source
     && option_map_or (λ a. bytes_eq a.name k.arch) (slice_get table place) false
 
--- whether a source with this Architecture field has a row on the architecture with a name ..
+-- whether a source with this Architecture field has a row on the architecture with a name
 abbrev pub has_row_on : List ArchWords → List ℕ → List ℕ → Bool
 has_row_on table archs arch = option_map_or (λ p. has_row table archs p) (place_of table arch) false
 
--- .. and that stands before a place
+-- whether a source with this Architecture field has a row on the architecture with a name, and that
+-- comes before a place of the table
 abbrev pub has_row_before : List ArchWords → List ℕ → ℕ → List ℕ → Bool
 has_row_before table archs place arch =
     option_map_or (λ p. nat_lt p place && has_row table archs p) (place_of table arch) false

@@ -9,6 +9,6 @@ use Rattle.td_indices.specs.declared.packaged.PackageKey.{PackageKey}
 abbrev pub same_home : Option ℕ → Option ℕ → Bool
 same_home a b = option_eq ◌==◌ a b
 
--- the same name, and the same place
+-- two keys have one name and one place
 abbrev pub same_key : PackageKey → PackageKey → Bool
 same_key a b = bytes_eq a.name.now b.name.now && same_home a.arch b.arch

@@ -15,7 +15,7 @@ use Rattle.td_indices.specs.Fields.{relation_of, value_of}
 use Rattle.td_indices.specs.Kept.{KeptBinary, binary_at}
 use Rattle.td_indices.specs.Needed.{HasNeeded}
 
--- `foo`: a name alone; the source has the version that the package has
+-- `foo`: only a name; the source has the version that the package has
 pub record IsName (text source : List ℕ) (own parts : Parts) : Type 0 where
   pub spelled : text ≡ source
   pub legal : IsTrue (is_name source)
@@ -51,7 +51,7 @@ pub record IsPackage (table : List ArchWords) (fields : List Entry)
   pub here : home_of table arch ≡ Some p.home
   pub source : HasSource p.name p.parts (value_of fields (codes "Source")) p.source p.source_parts
 
--- a stanza is read as a package exactly where it is that package
+-- a stanza is read as a package if and only if it is that package
 abbrev pub PackagesAreExact : Type 0
 PackagesAreExact =
     (table : List ArchWords) (fields : List Entry) (p : BinaryPackage)
@@ -69,7 +69,7 @@ pub record IsKeptPackage (table : List ArchWords) (number : ℕ) (fields : List 
   pub has_provides : relation_of fields Provides ≡ Ok b.provides
   pub numbered : b.stanza ≡ number
 
--- a stanza is kept as a package exactly where this is so
+-- a stanza is kept as a package if and only if it is that package, and its relations can be read
 abbrev pub KeptPackagesAreExact : Type 0
 KeptPackagesAreExact =
     (table : List ArchWords) (number : ℕ) (fields : List Entry) (b : KeptBinary)
@@ -83,7 +83,7 @@ pub record IsElsewhere (table : List ArchWords) (fields : List Entry) : Type 0 w
   pub has : HasNeeded fields version arch
   pub elsewhere : home_of table arch ≡ None
 
--- a stanza of Packages is skipped exactly where its package is elsewhere
+-- a stanza of Packages is skipped if and only if its package is elsewhere
 abbrev pub SkippedPackagesAreExact : Type 0
 SkippedPackagesAreExact =
     (table : List ArchWords) (number : ℕ) (fields : List Entry)

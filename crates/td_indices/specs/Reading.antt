@@ -60,16 +60,16 @@ source_step number seen fields =
 abbrev pub sources_at : List (List Entry) → Result (List KeptSource) ArchiveFault
 sources_at stanzas = over_stanzas source_step 0 [] stanzas
 
--- whether it is want of memory
+-- whether a fault is that memory ran out
 abbrev pub is_want : ArchiveFault → Bool
 is_want archive.NoMemory = true
 is_want fault = false
 
--- a fault is the reading's, unless it is want of memory
+-- a fault is the reading's, unless it is that memory ran out
 abbrev pub IsFaultOf : {A : Type 0} → Result A ArchiveFault → ArchiveFault → Type 0
 IsFaultOf read fault = is_want fault ≡ false → read ≡ Err fault
 
--- whether it is a fault of one stanza, or want of memory
+-- whether a fault is one of what a stanza says, or that memory ran out
 abbrev pub is_entry : ArchiveFault → Bool
 is_entry (archive.Stanza file fault) = false
 is_entry (archive.MissingField file number field) = true

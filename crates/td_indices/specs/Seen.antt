@@ -13,7 +13,7 @@ pub record BinarySeen : Type 0 where
   pub head : BinaryPackage
   pub stanza : ℕ
 
--- what a `Binary` holds ..
+-- what a `Binary` holds
 abbrev pub seen_binary : Binary → BinarySeen
 seen_binary b = record {
   head = record {
@@ -27,7 +27,7 @@ seen_binary b = record {
   stanza = b.stanza;
 }
 
--- .. and what the archive shows of a binary package
+-- what the archive shows of a binary package
 abbrev pub shown_binary : KeptBinary → BinarySeen
 shown_binary b = record { head = b.head; stanza = b.stanza }
 
@@ -36,7 +36,7 @@ pub record SourceSeen : Type 0 where
   pub head : SourcePackage
   pub stanza : ℕ
 
--- what a `Source` holds ..
+-- what a `Source` holds
 abbrev pub seen_source : Source → SourceSeen
 seen_source s = record {
   head = record
@@ -44,6 +44,6 @@ seen_source s = record {
   stanza = s.stanza;
 }
 
--- .. and what the archive shows of a source
+-- what the archive shows of a source
 abbrev pub shown_source : KeptSource → SourceSeen
 shown_source s = record { head = s.head; stanza = s.stanza }

@@ -25,13 +25,14 @@ pub record IsKeptSource (number : ℕ) (fields : List Entry) (s : KeptSource) : 
   pub has_arch_depends : relation_of fields BuildDependsArch ≡ Ok arch_depends
   pub numbered : s.stanza ≡ number
 
--- a stanza is kept as a source exactly where this is so
+-- a stanza is kept as a source if and only if it is that source, and the relations of its build can
+-- be read
 abbrev pub KeptSourcesAreExact : Type 0
 KeptSourcesAreExact =
     (number : ℕ) (fields : List Entry) (s : KeptSource)
     → (kept_source_at number fields ≡ Ok (Some s)) ↔ IsKeptSource number fields s
 
--- a stanza of Sources is skipped exactly where it is an extra one
+-- a stanza of Sources is skipped if and only if it is an extra one
 abbrev pub SkippedSourcesAreExact : Type 0
 SkippedSourcesAreExact =
     (number : ℕ) (fields : List Entry)

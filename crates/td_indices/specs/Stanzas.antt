@@ -20,7 +20,7 @@ fields_at stanzas number = option_map_or (λ fields. fields) (slice_get stanzas 
 abbrev pub package_fields : Contents → KeptBinary → List Entry
 package_fields a b = fields_at a.packages b.stanza
 
--- those of the stanza that a source was kept of
+-- the fields of the stanza that a source was kept of
 abbrev pub source_fields : Contents → KeptSource → List Entry
 source_fields a s = fields_at a.source_stanzas s.stanza
 

@@ -300,7 +300,8 @@ impl<'t, 'a> Archive<'t, 'a> {
         }
     }
 
-    // The same on each architecture.
+    // Puts the rows with which a source opens, one on each architecture where it has one, among
+    // others.
     fn open_source(
         &self,
         rows: &mut IndexMap<Key, Row>,
@@ -328,7 +329,7 @@ impl<'t, 'a> Archive<'t, 'a> {
         Ok(())
     }
 
-    // The same of the source with a number.
+    // Puts the rows with which the source with a number opens among others.
     fn open_numbered(&self, rows: &mut IndexMap<Key, Row>, number: usize) -> Result<(), AllocError>
         requires number { number < length self.now.sources }
         requires apart { IsApart self.now.table }
@@ -387,7 +388,7 @@ impl<'t, 'a> Archive<'t, 'a> {
     /// it has none.
     pub fn opening_rows(&self) -> Result<Rows, AllocError>
         ensures rows { IfOk result (λ rows. (k : Key) → row_of rows k ≡ opening_row_of self.now k) }
-        // They are as many as `row_count` says.
+        // The rows are as many as `row_count` says.
         ensures count { IfOk result (λ rows.
             length rows ≡ row_count self.now.table self.now.sources) }
         // No builder has one of them.
@@ -402,8 +403,8 @@ impl<'t, 'a> Archive<'t, 'a> {
         self.sorted_rows(None)
     }
 
-    /// The same of some sources alone: of those whose flag is set, the first flag being that of the
-    /// first source.
+    /// The rows with which a desk opens, only those of the sources whose flag is set; the first
+    /// flag is that of the first source.
     pub fn opening_rows_of(&self, flags: &[bool]) -> Result<Rows, AllocError>
         ensures { IfOk result (AreOpenedOf self.now (flagged flags.now self.now.sources)) }
     {

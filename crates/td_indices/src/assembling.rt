@@ -40,7 +40,7 @@ fn kept_of_indices<'a>(
     ensures fault { (table : List ArchWords) (p s : List (List ℕ))
         → ArePackages table p packages.entry
         → AreSources s sources.entry → IfErr result (FaultOf table p s) }
-    // A fault is told as it came.
+    // A fault is passed on as it came.
     ensures told { IfErr result (IsFirstOf packages.entry.kept sources.entry.kept) }
 {
     match paired(packages.kept, sources.kept) {
@@ -65,7 +65,7 @@ fn kept_of_both<'a>(
     ensures fault { (table : List ArchWords) (p s : List (List ℕ))
         → ArePackagesRead table p packages.entry
         → AreSourcesRead s sources.entry → IfErr result (FaultOf table p s) }
-    // A fault is told as it came.
+    // A fault is passed on as it came.
     ensures told { IfErr result (IsOfOne packages.entry sources.entry) }
 {
     match paired(packages, sources) {
@@ -111,7 +111,7 @@ impl<'t, 'a> Archive<'t, 'a> {
         ensures fault { (p s : List (List ℕ)) → AreStanzas kept.entry.packages p
             → AreStanzas kept.entry.source_stanzas s
             → IfErr result (FaultOf (table archs.now) p s) }
-        // A fault is told as it came.
+        // A fault is passed on as it came.
         ensures told { IfErr result (λ e. counted.entry ≡ Err e) }
     {
         match counted {

@@ -33,7 +33,7 @@ impl<'a> Binaries<'a> {
     ghost use Rattle.td_indices.specs.Kept.{binaries_of};
     ghost use Rattle.td_indices.specs.inner.Parts.{packages_in, put_all};
 
-    /// Of the packages of these parts, those that count. There is room for so many from the first.
+    /// The packages of these parts that count. There is room for `room` packages from the first.
     pub fn of_parts(
         alloc: Global,
         parts: Vec<Vec<(PackageKey<'a>, Packaged<'a>)>>,

@@ -51,7 +51,7 @@ fn front_name(front: &str) -> Option<&str>
     }
 }
 
-/// The source's name, and what stands behind the bracket, if there is one.
+/// The source's name, and what comes after the bracket, if there is one.
 #[tactic(auto, unfolding(crate::specs::Binaries::origin_of))]
 fn origin<'a>(
     name: &'a str,
@@ -77,7 +77,7 @@ fn origin<'a>(
     }
 }
 
-/// The source's version: the one that stands behind the bracket, or the package's own.
+/// The source's version: the one after the bracket, or the package's own.
 #[tactic(auto, unfolding(crate::specs::Binaries::source_version))]
 fn source_version<'a>(own: Version<'a>, bracket: Option<&'a str>) -> Result<Version<'a>, EntryFault>
     ensures { version_found result

@@ -10,7 +10,7 @@ pub const HALVINGS: usize = 3;
 /// The shortest text that is worth a second thread, in bytes.
 const LEAST: usize = 131_072;
 
-/// What stands before and behind the newline at a place, if an empty line follows.
+/// What comes before and after the newline at a place, if an empty line follows.
 fn cut_at(text: &str, place: usize) -> Option<(&str, &str)>
     ensures { IfSome result (λ parts. IsCutApart text.now parts.0.now parts.1.now) }
 {
@@ -39,8 +39,8 @@ pub fn halved(text: &str) -> Option<(&str, &str)>
     cut_at(text, half.checked_add(place)?)
 }
 
-/// What stands before the last newline of a text's front, if an empty line follows: the rest is what
-/// stands behind the newline.
+/// What comes before the last newline of a text's front, if an empty line follows: the rest is what
+/// comes after the newline.
 pub fn front_of<'a>(front: &'a str, rest: &str) -> Option<&'a str>
     ensures { IfSome result (λ before. IsCutApart (front.now ++ rest.now) before.now rest.now) }
 {

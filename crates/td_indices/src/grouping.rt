@@ -1,5 +1,5 @@
-//! The binary packages are put under their sources in four threads, beside the count of the rows,
-//! and found there by architecture.
+//! The binary packages are put under their sources in four threads, while the rows are counted, and
+//! found there by architecture.
 ghost use Rattle.std.specs.Prelude.{◌≡◌, ◌⊎◌, ◌≤◌, ◌<◌, ℕ, List, Some, IfOk, IfErr, IsErrOf};
 ghost use Rattle.std.specs.Prelude.{filter, slice_get};
 ghost use Rattle.std.specs.Option.{option_map_or};
@@ -153,7 +153,7 @@ fn is_number_on(binaries: &Binaries<'_>, number: usize, arch: usize) -> bool
     }
 }
 
-/// Of these numbers, those of binary packages on the architecture or on `all`.
+/// Which of these numbers are those of binary packages on the architecture or on `all`.
 pub fn those_on(
     alloc: Global,
     binaries: &Binaries<'_>,

@@ -29,7 +29,7 @@ fn quarter_of(name: &str) -> Quarter
     }
 }
 
-/// Adds a number behind those of its name, where the name is of the quarter.
+/// Adds a number after those of its name, if the name is of the quarter.
 pub fn push_in_quarter<'a>(
     numbers: &mut Numbers<'a>,
     quarter: Quarter,

@@ -1,4 +1,5 @@
-//! Each of the two files read by itself, beside the other: its stanzas, and what they keep.
+//! Each of the two files is read by itself, at the same time as the other: its stanzas, and what
+//! they keep.
 ghost use Rattle.std.specs.Prelude.{◌≡◌, ℕ, true, List};
 ghost use denote.Param.Send.{IsSync};
 ghost use Rattle.td_text.specs.Lines.{lines_of};

@@ -39,7 +39,7 @@ impl<'a> IndexText<'a> {
     ghost use Rattle.td_text.specs.Lines.{lines_of};
     ghost use Rattle.td_indices.specs.inner.IndexReading.{AreStanzasRead};
 
-    /// Finds the stanzas of a text, of a long one in pieces. A fault is told with the archive.
+    /// Finds the stanzas of a text, of a long one in pieces. A fault is answered with the archive.
     pub fn read(rt: &(impl Threads + Sync), alloc: Global, text: &'a str) -> IndexText<'a>
         ensures { result ≡ text.now }
     {
@@ -69,7 +69,7 @@ impl<'a> IndexText<'a> {
         })
     }
 
-    /// Its stanzas, or its fault, as that of this file.
+    /// The stanzas of the text, or its fault, as that of this file.
     pub(crate) fn into_stanzas(self, file: IndexFile) -> Result<StanzaPieces<'a>, ArchiveFault>
         ensures { AreStanzasRead file (lines_of self.entry) result }
     {

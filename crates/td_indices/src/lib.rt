@@ -6,10 +6,10 @@
 //! two that were found while the texts came. Threads share the work, and no clause speaks of them.
 //! Texts are slices of the files; a look-up goes by hash.
 //! Promised: what is read is an archive as `specs/Archive.antt` says, else the first fault is
-//! named; a stanza is a package or a source exactly where `specs/PackageStanzas.antt` and
+//! named; a stanza is a package or a source if and only if `specs/PackageStanzas.antt` and
 //! `specs/SourceStanzas.antt` say so; of several stanzas of one source, or of one package and
-//! architecture, the one counts that has the greatest version, the first where versions are equal
-//! in order (`specs/Counting.antt`). A key opens with the row that `specs/Opening.antt` says;
+//! architecture, the one counts that has the greatest version, the first if versions are equal in
+//! order (`specs/Counting.antt`). A key opens with the row that `specs/Opening.antt` says;
 //! `specs/Supplying.antt` says what is on offer.
 #![tactic(auto)]
 

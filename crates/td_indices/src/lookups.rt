@@ -132,7 +132,7 @@ impl<'t, 'a> Archive<'t, 'a> {
     }
 
     /// What every build of the source with a number asks for, read again from the field's text;
-    /// `None` where there is no such field, or whitespace alone in it.
+    /// `None` if there is no such field, or only whitespace in it.
     pub fn build_depends(&self, source: usize) -> Result<Option<Relation<'a>>, AllocError>
         requires { source < length self.now.sources }
         ensures read { IfOk result (λ r.
@@ -145,7 +145,8 @@ impl<'t, 'a> Archive<'t, 'a> {
         self.build_relation(source, RelationField::BuildDepends)
     }
 
-    /// The same of what the builds of packages ask for that aren't of `all`.
+    /// What the builds of the source's packages that aren't of `all` ask for, read again from the
+    /// field's text; `None` if there is no such field, or only whitespace in it.
     pub fn build_depends_arch(&self, source: usize) -> Result<Option<Relation<'a>>, AllocError>
         requires { source < length self.now.sources }
         ensures read { IfOk result (λ r.

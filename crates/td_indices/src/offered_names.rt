@@ -66,7 +66,7 @@ impl<'r, 'a> OfferedNames<'r, 'a> {
         }
     }
 
-    /// Those of a package.
+    /// The names that a package offers.
     pub(crate) fn of_package(
         key: &PackageKey<'a>,
         packaged: &'r Packaged<'a>,

@@ -65,7 +65,7 @@ fn is_current(
     key.arch == Some(place) && is_same_version(&packaged.source_parts, parts)
 }
 
-/// The rebuild number of a package, where it was built on the architecture from the version.
+/// The rebuild number of a package, if it was built on the architecture from the version.
 fn number_of(
     key: &PackageKey<'_>,
     packaged: &Packaged<'_>,
@@ -82,7 +82,8 @@ fn number_of(
     }
 }
 
-/// The same of the package with a number.
+/// The rebuild number of the package with a number, if it was built on the architecture from the
+/// version.
 fn current_number(
     binaries: &Binaries<'_>,
     number: usize,
@@ -98,7 +99,8 @@ fn current_number(
     }
 }
 
-/// The greatest rebuild number among such packages.
+/// The greatest rebuild number among the packages that were built on the architecture from the
+/// version.
 pub fn greatest_number(
     binaries: &Binaries<'_>,
     numbers: &[usize],

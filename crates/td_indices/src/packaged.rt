@@ -62,7 +62,7 @@ pub fn is_on(place: usize, home: Option<usize>) -> bool
     }
 }
 
-/// What a stanza of Packages says of a binary package, but for its relations.
+/// What a stanza of Packages says of a binary package, except its relations.
 #[derive(Clone, Copy)]
 pub struct Head<'a> {
     pub key: PackageKey<'a>,
@@ -73,7 +73,7 @@ pub struct Head<'a> {
     pub source_parts: Version<'a>,
 }
 
-/// What is kept of a stanza of Packages beside its key.
+/// What is kept of a stanza of Packages in addition to its key.
 #[derive(Drop)]
 pub struct Packaged<'a> {
     pub version: &'a str,

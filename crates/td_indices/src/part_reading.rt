@@ -30,7 +30,7 @@ const LEAST: usize = 512;
 /// them took longer than the rest.
 pub const HALVINGS: usize = 4;
 
-/// Takes the package of a stanza, if it has one, behind others.
+/// Takes the package of a stanza, if it has one, after others.
 fn take_binary<'a>(
     alloc: Global,
     packages: &mut Vec<(PackageKey<'a>, Packaged<'a>)>,
@@ -101,7 +101,7 @@ fn alone<'a>(
     }
 }
 
-/// Some parts, and others behind them. No package is moved.
+/// Some parts, and others after them. No package is moved.
 fn joined<'a>(
     front: Result<Vec<Vec<(PackageKey<'a>, Packaged<'a>)>>, ArchiveFault>,
     rest: Result<Vec<Vec<(PackageKey<'a>, Packaged<'a>)>>, ArchiveFault>,

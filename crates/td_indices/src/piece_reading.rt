@@ -66,7 +66,7 @@ fn read_pieces<'a, R: Threads + Sync>(
     }
 }
 
-/// The stanzas of a text that is cut in two, if it has some, each part of it in such pieces.
+/// The stanzas of a text that is cut in two, if it has some, each part of it in pieces.
 #[cycle(pieces)]
 fn read_two<'a, R: Threads + Sync>(
     rt: &R,
@@ -90,8 +90,8 @@ fn read_two<'a, R: Threads + Sync>(
     joined(front, rest)
 }
 
-/// The stanzas of a text that came as its front and its rest, if it is cut before an empty line, and
-/// has some.
+/// The stanzas of a text that came as its front and its rest, if it is cut before an empty line,
+/// and has some.
 pub fn read_halves<'a>(
     rt: &(impl Threads + Sync),
     alloc: Global,
@@ -105,8 +105,8 @@ pub fn read_halves<'a>(
 }
 
 /// The stanzas of a text, of a long one in pieces, or its first fault as a control file. A text
-/// that has a fault, or that memory doesn't suffice for, is read again as a whole, so that its lines
-/// are counted from its first.
+/// that has a fault, or that memory doesn't suffice for, is read again as a whole, so that its
+/// lines are counted from its first.
 pub fn read_stanzas<'a, R: Threads + Sync>(
     rt: &R,
     alloc: Global,

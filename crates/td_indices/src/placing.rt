@@ -1,5 +1,5 @@
-//! Of several stanzas of one package in one place, the one that counts is found: no package is
-//! moved, a map keeps where each stands.
+//! The one that counts is found of several stanzas of one package in one place: no package is
+//! moved, a map keeps where each is.
 ghost use Rattle.std.specs.Prelude.{
   ◌≡◌,
   ◌<◌,
@@ -56,8 +56,8 @@ fn is_better<'a>(
     }
 }
 
-/// Keeps the place of a package: for that of an earlier one of its key where that has a lower
-/// version, and behind all where there is none.
+/// Keeps the place of a package: instead of that of an earlier one of its key if that has a lower
+/// version, and after all if there is none of its key.
 fn keep_place<'a>(
     parts: &[Vec<(PackageKey<'a>, Packaged<'a>)>],
     places: &mut IndexMap<PackageKey<'a>, Place>,
@@ -107,7 +107,7 @@ fn keep_part<'a>(
     Ok(())
 }
 
-/// The places of those packages that count. There is room for so many from the first.
+/// The places of those packages that count. There is room for `room` places from the first.
 pub fn places_of<'a>(
     alloc: Global,
     parts: &[Vec<(PackageKey<'a>, Packaged<'a>)>],

@@ -64,7 +64,7 @@ fn relation_in(
     }
 }
 
-/// What a relation field of a stanza asks; `None` where it isn't there, or has whitespace alone.
+/// What a relation field of a stanza asks; `None` if it isn't there, or has only whitespace.
 pub fn relation_of<'a>(
     alloc: Global,
     stanza: &Stanza<'_, 'a>,
@@ -77,7 +77,7 @@ pub fn relation_of<'a>(
     relation_in(alloc, field, value_of(stanza, field.name()))
 }
 
-/// What a binary package provides; its other relations are read for their faults alone.
+/// What a binary package provides; its other relations are read only for their faults.
 #[tactic(auto, unfolding(crate::specs::Kept::provides_at))]
 pub fn read_provides<'a>(
     alloc: Global,
@@ -97,7 +97,7 @@ pub fn read_provides<'a>(
     relation_of(alloc, stanza, RelationField::Provides)
 }
 
-/// What a relation field of a stanza asks, where it was read before: only memory can be wanting.
+/// What a relation field of a stanza asks, if it was read before: it fails only if memory runs out.
 pub fn read_again<'a>(
     alloc: Global,
     stanza: &Stanza<'_, 'a>,

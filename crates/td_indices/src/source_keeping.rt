@@ -1,4 +1,4 @@
-//! Of several stanzas of one source, the one that counts is kept.
+//! The one that counts is kept of several stanzas of one source.
 ghost use Rattle.std.specs.Prelude.{◌≡◌, OnOk};
 ghost use Rattle.std.specs.Str.{bytes_eq};
 ghost use Rattle.indexmap.specs.IndexMap.{get_by};
@@ -23,8 +23,8 @@ fn has_better(kept: &IndexMap<&str, Sourced<'_>>, name: &str, parts: &Version<'_
     }
 }
 
-/// Keeps a source: in the place of an earlier one of its name where that has a lower version, and
-/// behind all where there is none.
+/// Keeps a source: instead of an earlier one of its name if that has a lower version, and after all
+/// if there is none of its name.
 pub fn keep_source<'a>(
     kept: &mut IndexMap<&'a str, Sourced<'a>>,
     name: &'a str,

@@ -53,7 +53,7 @@ fn read_head<'a>(
     Ok((name, sourced))
 }
 
-/// Reads what the builds of a source ask for, for its faults alone.
+/// Reads what the builds of a source ask for, only for its faults.
 #[tactic(auto, unfolding(crate::specs::Sources::with_build_relations))]
 pub fn check_relations(alloc: Global, stanza: &Stanza<'_, '_>) -> Result<(), EntryFault>
     ensures ok { OnOk result ((number : ℕ) (head : SourcePackage)

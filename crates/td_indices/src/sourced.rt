@@ -5,7 +5,7 @@ ghost use Rattle.td_indices.specs.Sources.{source_of};
 
 use td_version::Version;
 
-/// What is kept of a stanza of Sources beside the source's name.
+/// What is kept of a stanza of Sources in addition to the source's name.
 #[derive(Drop)]
 pub struct Sourced<'a> {
     /// The version as it is written.

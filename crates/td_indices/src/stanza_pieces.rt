@@ -3,7 +3,7 @@ use std::alloc::{AllocError, Global};
 use std::marker::Model;
 use td_stanza::{Stanza, StanzaList};
 
-/// The stanzas of a few lists, one list behind the other. Contracts see all of them as one list.
+/// The stanzas of a few lists, one list after the other. Contracts see all of them as one list.
 #[derive(Drop)]
 pub struct StanzaPieces<'a> {
     pieces: Vec<StanzaList<'a>>,
@@ -38,7 +38,7 @@ impl<'a> StanzaPieces<'a> {
         Ok(StanzaPieces { pieces, count })
     }
 
-    /// Those of some pieces and of others behind them; `None` where there are more than a `usize`
+    /// The stanzas of some pieces and of others after them; `None` if there are more than a `usize`
     /// counts, or memory runs out.
     pub fn joined(front: StanzaPieces<'a>, rest: StanzaPieces<'a>) -> Option<StanzaPieces<'a>>
         ensures { IfSome result (λ list. list ≡ front.entry ++ rest.entry) }
@@ -77,7 +77,7 @@ impl<'a> StanzaPieces<'a> {
         None
     }
 
-    // Half of how many pieces begin behind one stanza and before another.
+    // Half of how many pieces begin after one stanza and before another.
     fn half_the_cuts(&self, from: usize, to: usize) -> usize {
         let mut start: usize = 0;
         let mut cuts: usize = 0;

@@ -41,7 +41,7 @@ use indexmap::IndexMap;
 use std::alloc::Global;
 use td_stanza::Stanza;
 
-/// Of the packages that all stanzas, so many, stand for, those that count.
+/// The packages that count, of those that all stanzas stand for; there are `count` stanzas.
 pub fn kept_of<'a>(
     alloc: Global,
     read: Result<Vec<Vec<(PackageKey<'a>, Packaged<'a>)>>, ArchiveFault>,

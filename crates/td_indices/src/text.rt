@@ -13,7 +13,7 @@ fn first_space(bytes: &[u8]) -> Option<usize>
     bytes.iter().position(|b| is_space(*b))
 }
 
-/// The first piece before a whitespace character, and what follows that; `None` behind the last.
+/// The first piece before a whitespace character, and what follows that; `None` after the last.
 pub fn next_word(text: &str) -> (&str, Option<&str>)
     ensures words { slice_split is_space_of text.now ≡ result.0.now ∷ words_left result.1 }
     ensures shorter { left_len result.1 ≤ length text.now }

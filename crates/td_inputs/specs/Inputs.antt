@@ -90,7 +90,7 @@ abbrev pub IsNoTable : Texts → ArchsFault → Type 0
 IsNoTable x table.NoMemory = ⊥
 IsNoTable x e = table_file.FaultOf (lines_of x.archs) e
 
--- with the table, the indices are no archive
+-- the indices are no archive with the table, for this
 abbrev pub AreNoIndices : Texts → ArchiveFault → Type 0
 AreNoIndices x archive.NoMemory = ⊥
 AreNoIndices x e =

@@ -6,7 +6,7 @@ use td_ledger::{AppendFault, Ledger, Lines, Memory, OpenFault, Opening, is_line}
 
 const HEADER: &str = "desk 1";
 
-// A file in memory that is read, and that takes so many bytes and so many syncs.
+// A file in memory that is read, and that takes this many bytes and this many syncs.
 fn read(
     alloc: Global,
     file: &[u8],

@@ -13,13 +13,13 @@ use Rattle.td_naming.specs.declared.skips.SkipReason.TheVariants as why
 abbrev pub state_at : Table → Key → State
 state_at t k = elim (row_of t k) [ Some row ↦ row.state | None ↦ NeedsBuild ]
 
--- the reason: the version doesn't match, or else the kind doesn't apply to the row, whose state is
--- told
+-- the reason why a key is skipped: the version doesn't match, or else the kind doesn't apply to the
+-- row, whose state it gives
 abbrev pub skip_at : (Key → Bool) → Table → Key → Skip
 skip_at matches t k =
     record { key = k; reason = if matches k then why.State (state_at t k) else why.Version }
 
--- a key isn't taken where its version doesn't match, or the kind doesn't apply on its row
+-- a key isn't taken if its version doesn't match, or the kind doesn't apply on its row
 abbrev pub is_skipped : (Key → Bool) → Table → Kind → Key → Bool
 is_skipped matches t kind k = not (matches k && fits t kind k)
 
@@ -54,6 +54,6 @@ reason_now (why.State old) s = why.State s
 abbrev pub renewed : Table → Skip → Skip
 renewed t s = record { key = s.key; reason = reason_now s.reason (state_at t s.key) }
 
--- of the doubts those that are left, with their states
+-- the doubts that are left, with the states that their rows have now
 abbrev pub left_of : Kind → List Skip → Table → List Skip
 left_of kind doubts t = map (renewed t) (filter (is_left t kind) doubts)

@@ -24,7 +24,8 @@ pub struct Skip {
     pub reason: SkipReason,
 }
 
-/// Such rows in the order of their keys. Contracts see the list.
+/// The rows that a command names and doesn't take, in the order of their keys. Contracts see the
+/// list.
 #[derive(Debug, Drop)]
 pub struct Skips {
     skips: Vec<Skip>,

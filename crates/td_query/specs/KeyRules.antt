@@ -8,7 +8,7 @@ use Rattle.td_query.specs.QueryRules.{Comes}
 use Rattle.td_query.specs.Tokens.{skipped}
 use Rattle.td_query.specs.TrackerGrammar.{Said, entry_at, value_at}
 
--- a key that needs a query says this query, in place of an earlier one; otherwise only the patterns
+-- a key that needs a query says this query, instead of an earlier one; otherwise only the patterns
 -- change
 pub record SaysQueries (s : Said) (t : List ℕ) (query : Shape) (log : Log)
     (rest : List ℕ) : Type 0 where
@@ -22,7 +22,7 @@ abbrev pub QueriesAreSaid : Type 0
 QueriesAreSaid = (s : Said) (t : List ℕ) (query : Shape) (log : Log) (rest : List ℕ)
     → or_at 100 s.log t ≡ Ok (query, log, rest) → SaysQueries s t query log rest
 
--- the title is what is between two `"`, in place of an earlier one
+-- the title is what is between two `"`, instead of an earlier one
 abbrev pub TitlesAreSaid : Type 0
 TitlesAreSaid = (s : Said) (t u title rest : List ℕ) → skipped t ≡ codes "\"" ++ u
     → cut 34 u ≡ Some (title, rest)

@@ -49,7 +49,7 @@ abbrev pub title_value : Said → ℕ → Option (List ℕ) → SaidRead
 title_value s left None = Err (left, s.log)
 title_value s left (Some t) = titled s (cut 34 t)
 
--- a query under `is_affected`, in place of an earlier one
+-- a query under `is_affected`, instead of an earlier one
 abbrev pub with_affected : Said → Shape × Log × List ℕ → SaidRead
 with_affected s x = Ok (
   record {
@@ -62,7 +62,7 @@ with_affected s x = Ok (
   x.2,
 )
 
--- a query under `is_good`, in place of an earlier one
+-- a query under `is_good`, instead of an earlier one
 abbrev pub with_good : Said → Shape × Log × List ℕ → SaidRead
 with_good s x = Ok (
   record {
@@ -75,7 +75,7 @@ with_good s x = Ok (
   x.2,
 )
 
--- a query under `is_bad`, in place of an earlier one
+-- a query under `is_bad`, instead of an earlier one
 abbrev pub with_bad : Said → Shape × Log × List ℕ → SaidRead
 with_bad s x = Ok (
   record {

@@ -67,7 +67,7 @@ pub fn patterns_end_at_their_slash()
     ensures { PatternsEndAtTheirSlash }
 {}
 
-/// Each key says what is read under its own name, in place of what it said before, if an `=` comes
+/// Each key says what is read under its own name, instead of what it said before, if an `=` comes
 /// before the value and a `;` after it.
 pub fn keys_say_what_is_read()
     ensures queries { QueriesAreSaid }

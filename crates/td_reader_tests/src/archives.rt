@@ -221,7 +221,7 @@ fn fault_of(
     Archive::read(rt, alloc, packages, sources, &archs).err()
 }
 
-// These many stanzas of Packages, and behind them one without what it needs.
+// This many stanzas of Packages, and after them one without what it needs.
 fn faulty_after(alloc: Global, count: usize) -> Result<String, AllocError> {
     let mut text = String::new(alloc);
     for _ in 0..count {

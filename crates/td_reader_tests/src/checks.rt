@@ -26,7 +26,7 @@ pub(crate) fn is_text(rt: &impl Abort, found: &str, expected: &str, case: &str) 
     assert_eq!(rt; found, expected, "{case}");
 }
 
-/// Whether a case is told in this text.
+/// Whether a case has this text as its answer.
 pub(crate) fn is_told<E: Debug + Drop>(
     rt: &impl Abort,
     told: Result<String, E>,

@@ -12,7 +12,7 @@ const TABLE: &str = "amd64 linux amd64\ni386 linux i386";
 
 const SUITES: [&str; 1] = ["unstable"];
 
-/// A line, and behind `#` what is read: verb, packages, architectures, message and extra, or the
+/// A line, and after `#` what is read: verb, packages, architectures, message and extra, or the
 /// fault and its place.
 const LINES: &str = r##"
 nmu foo_1.2-3 . ANY . unstable . -m "Rebuild against libbar2" # nmu foo_1.2-3 / amd64 i386 / Rebuild against libbar2 /

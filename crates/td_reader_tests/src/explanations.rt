@@ -33,7 +33,7 @@ const STANZAS: [Explained; 3] = [
     (Place::Stanza(3), "stanza 3; wanted: x\n"),
 ];
 
-// A stanza begins behind separators, whatever their number; the last line of an index is empty.
+// A stanza begins after separators, whatever their number; the last line of an index is empty.
 #[test]
 fn a_stanza_is_shown_by_its_first_line(rt: HostRuntime) {
     let text = "\nPackage: a\nDescription: one\n .\n two\n \t\n\nPackage: b\n";
@@ -68,7 +68,7 @@ const BYTES: [Explained; 7] = [
     (Place::Byte(16), "byte 16; wanted: x\n"),
 ];
 
-// The offset of the end is behind the last newline.
+// The offset of the end is after the last newline.
 #[test]
 fn a_byte_has_a_line_and_a_column(rt: HostRuntime) {
     are_explained(&rt, rt.alloc(), "a = 1;\nb = é;\n", &BYTES);

@@ -1,8 +1,9 @@
 //! The tests of the crates that read and write: streams, stanzas, versions, relations and what is
 //! on offer, indices, command lines, trackers, and explanations: what no clause says.
 //!
-//! A module a crate, beside what all of them ask. They stand in a crate of their own, over the
-//! crates' public calls, so that none of those is proved a second time with its tests.
+//! There is a module for each crate, and one for what all of them ask. The tests are in a crate of
+//! their own, over the crates' public calls, so that none of those is proved a second time with its
+//! tests.
 #![tactic(auto)]
 
 #[cfg(test)]

@@ -109,8 +109,8 @@ const OPERATORS: [Asked<'static>; 7] = [
     ("native(>>1.0~rc1)", (true, false)),
 ];
 
-// Policy 7.1: `<<` is strictly earlier; Policy 5.6.12: 1.0 and 1.0-0 are equal. What they are met
-// by is on offer on amd64 alone.
+// Policy 7.1: `<<` is strictly earlier; Policy 5.6.12: 1.0 and 1.0-0 are equal. What meets them is
+// on offer only on amd64.
 #[test]
 fn operators_go_by_the_order_of_versions(rt: HostRuntime) {
     are_met(&rt, rt.alloc(), &OPERATORS);
@@ -172,7 +172,8 @@ const UNFAULTED: [&str; 2] = [
     " foo:any(>=1)[ !i386 !hurd-any ]<!a b>\n\t< c >",
 ];
 
-// By place from the left, and then by number: this project's own.
+// The first fault from the left decides, and at one place the first in the table of
+// `docs/FORMATS.md`: this project's own.
 #[test]
 fn the_first_fault_from_the_left_is_named(rt: HostRuntime) {
     for (text, fault) in &FAULTS {
@@ -323,7 +324,7 @@ fn the_first_faulty_line_of_a_table_is_named(rt: HostRuntime) {
     }
 }
 
-/// Lines `NAME linux x`, with so many names.
+/// Lines `NAME linux x`, with this many names.
 fn many(alloc: Global, count: usize) -> Result<String, AllocError> {
     let mut text = String::new(alloc);
     for i in 0..count {
@@ -332,7 +333,7 @@ fn many(alloc: Global, count: usize) -> Result<String, AllocError> {
     Ok(text)
 }
 
-/// What is read of a table of so many.
+/// What is read of a table of this many.
 fn size_of_many(alloc: Global, count: usize) -> Result<usize, ArchsFault> {
     match many(alloc, count) {
         Ok(text) => table_size(alloc, text.as_str()),

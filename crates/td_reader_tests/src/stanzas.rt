@@ -23,7 +23,7 @@ fn told(alloc: Global, list: &StanzaList<'_>) -> Result<String, AllocError> {
     Ok(out)
 }
 
-/// The fields of all stanzas, a newline behind each stanza.
+/// The fields of all stanzas, a newline after each stanza.
 fn shown(alloc: Global, text: &str) -> Result<String, AllocError> {
     match stanzas(alloc, text) {
         Ok(list) => told(alloc, &list),
@@ -122,12 +122,12 @@ fn the_first_line_with_a_fault_decides(rt: HostRuntime) {
     }
 }
 
-/// Fields with names of one byte: ten digits and the capitals, W to Z behind 32 others.
+/// Fields with names of one byte: ten digits and the capitals, W to Z after 32 others.
 const MANY: &str = "0:\n1:\n2:\n3:\n4:\n5:\n6:\n7:\n8:\n9:\n\
 A:\nB:\nC:\nD:\nE:\nF:\nG:\nH:\nI:\nJ:\nK:\nL:\nM:\n\
 N:\nO:\nP:\nQ:\nR:\nS:\nT:\nU:\nV:\nW:\nX:\nY:\nZ:\n";
 
-/// The many fields with a line behind them.
+/// The many fields with a line after them.
 fn many_and(alloc: Global, line: &str) -> Result<String, AllocError> {
     let mut text = String::from_str(alloc, MANY)?;
     text.push_str(line)?;
@@ -143,7 +143,7 @@ fn counts(alloc: Global, list: &StanzaList<'_>) -> Result<String, AllocError> {
     format!(in alloc; "{} {fields}", list.len())
 }
 
-/// What is read of the many fields with a line behind them: the counts, or the fault.
+/// What is read of the many fields with a line after them: the counts, or the fault.
 fn counted(alloc: Global, line: &str) -> Result<String, AllocError> {
     let text = many_and(alloc, line)?;
     match stanzas(alloc, text.as_str()) {
@@ -152,7 +152,7 @@ fn counted(alloc: Global, line: &str) -> Result<String, AllocError> {
     }
 }
 
-/// A line behind the many fields, and what is read with it.
+/// A line after the many fields, and what is read with it.
 const BEHIND_MANY: [(&str, &str); 8] = [
     ("9:", "Duplicate(37)"),
     ("a:", "Duplicate(37)"),
@@ -172,7 +172,7 @@ fn a_name_comes_once_among_many_fields(rt: HostRuntime) {
     }
 }
 
-// A line of a dot alone, a tab, a colon where a name would stand, a carriage return.
+// A line of only a dot, a tab, a colon where a name would stand, a carriage return.
 #[test]
 fn a_continuation_has_any_text(rt: HostRuntime) {
     let text = "Description: short\n long\n .\n\ttab: here\nTag:a\t\r\n  \n\nA:\n";
@@ -225,7 +225,7 @@ const OF_SOURCES: [Held; 2] = [
     ("Directory", "pool/main/0/0ad"),
 ];
 
-/// Whether the stanza has so many fields, these among them.
+/// Whether the stanza has this many fields, these among them.
 fn has_all(stanza: &Stanza<'_, '_>, count: usize, fields: &[Held]) -> bool {
     for (name, value) in fields {
         if !has(stanza, name, value) {
@@ -235,7 +235,7 @@ fn has_all(stanza: &Stanza<'_, '_>, count: usize, fields: &[Held]) -> bool {
     stanza.len() == count
 }
 
-/// Whether the first stanza has so many fields, these among them.
+/// Whether the first stanza has this many fields, these among them.
 fn first_has_all(list: &StanzaList<'_>, count: usize, fields: &[Held]) -> bool {
     match list.stanza(0) {
         Some(first) => has_all(&first, count, fields),

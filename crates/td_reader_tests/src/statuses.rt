@@ -77,7 +77,7 @@ Architecture: any
 ";
 
 // Two architectures: one has a package on each, two has one of `all`, three has a field of its own
-// and a row on the second alone.
+// and a row only on the second.
 const TWO_ARCHS: &str = "amd64 linux amd64\ni386 linux i386\n";
 
 const TWO_PACKAGES: &str = "\
@@ -149,7 +149,7 @@ pub fn status_name(status: Option<Status>) -> &'static str {
     }
 }
 
-/// Puts down a row's status behind a space, as the tracker and as its marks say, where they say the
+/// Puts down a row's status after a space, as the tracker and as its marks say, if they say the
 /// same.
 fn put_status(
     out: &mut String,
@@ -168,7 +168,7 @@ fn put_status(
     }
 }
 
-/// The statuses of these rows, each behind a space.
+/// The statuses of these rows, each after a space.
 fn statuses_marked(
     alloc: Global,
     archive: &Archive<'_, '_>,
@@ -275,7 +275,7 @@ fn a_row_has_its_own_architecture_and_all(rt: HostRuntime) {
     are_graded(&rt, alloc, TWO_ARCHS, TWO_PACKAGES, TWO_SOURCES, &OF_ALL);
 }
 
-/// A query, and behind ` →` the sources of the second archive that it affects.
+/// A query, and after ` →` the sources of the second archive that it affects.
 const QUERIES: &str = r##"
 .note ~ "x x" → three
 .NoTe ~ "x x" → three
@@ -297,7 +297,7 @@ const QUERIES: &str = r##"
 .architecture ~ "all" → two
 "##;
 
-/// The names, each behind a space.
+/// The names, each after a space.
 fn spaced(alloc: Global, names: &[&str]) -> Result<String, AllocError> {
     let mut out = String::new(alloc);
     for name in names {

@@ -122,7 +122,7 @@ impl Writer for Narrow {
     }
 }
 
-// Whether what is read, with room for so many bytes from the first, is this.
+// Whether what is read, with room for this many bytes from the first, is this.
 fn is_read<R: Reader>(
     alloc: Global,
     reader: &mut R,

@@ -5,7 +5,7 @@ use std::alloc::{AllocError, Global};
 use std::fmt::Display;
 use td_query::{Tracker, TrackerFault};
 
-/// A text, and behind `→` its title, or the fault with its place or key.
+/// A text, and after `→` its title, or the fault with its place or key.
 const TEXTS: &str = r##"
 title = "libfoo2"; is_affected = .depends ~ "libfoo1" | .depends ~ "libfoo2"; is_good = .depends ~ "libfoo2"; is_bad = .depends ~ "libfoo1"; → "libfoo2"
 is_affected=true;is_good=!(true&false)|false;is_bad=.Build-Depends~/^lib(foo|bar)\/[0-9]+$/; → ""
@@ -92,7 +92,7 @@ fn put_times(out: &mut String, text: &str, count: usize) -> Result<(), AllocErro
     Ok(())
 }
 
-/// A key with what stands in so many brackets.
+/// A key with what stands in this many brackets.
 fn nested(alloc: Global, depth: usize, inner: &str, close: &str) -> Result<String, AllocError> {
     let mut out = String::from_str(alloc, "is_affected = ")?;
     put_times(&mut out, "(", depth)?;

@@ -275,8 +275,8 @@ fn has_base(text: &str, (upstream, revision): &Base<'_>) -> bool {
     }
 }
 
-// As `split_rebuild` has it, which leaves `+b1` whole; of `1.0-+b1` nothing is left behind the
-// hyphen.
+// The bases are as `split_rebuild` has them, which leaves `+b1` whole; nothing of `1.0-+b1` is left
+// after the hyphen.
 const BASES: [(&str, Base<'static>); 6] = [
     ("1:1.2-3+b4", ("1.2", Some("3"))),
     ("1.2+b1+b2", ("1.2+b1", None)),
@@ -293,7 +293,7 @@ fn a_version_has_a_base(rt: HostRuntime) {
     }
 }
 
-/// A text's front, and what follows it so many times.
+/// A text's front, and what follows it this many times.
 type Repeated = (&'static str, &'static str, u32);
 
 fn repeated(alloc: Global, (front, unit, count): &Repeated) -> Result<String, AllocError> {

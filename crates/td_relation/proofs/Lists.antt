@@ -1,4 +1,4 @@
--- Lists that are seen through a view, and texts behind one another.
+-- Lists that are seen through a view, and texts one after another.
 use Rattle.std.proofs.Common.{◌≡◌, ℕ, ◌+◌, Bool, true, false, cond, not, eqb, ◌&&◌, List, [], ◌∷◌}
 use Rattle.std.proofs.Common.{◌++◌, map, length, take, drop, refl, sym, ap, ◌∙◌}
 use Rattle.std.specs.List.{position, prefix_len}

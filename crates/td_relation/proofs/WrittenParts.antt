@@ -1,4 +1,5 @@
--- The parts of an alternative, written in the canonical way one behind the other,
+-- The parts of an alternative, written in the canonical way one after the other, are read again one
+-- by one.
 -- are read again one by one.
 use Rattle.std.proofs.Common.{◌≡◌, ℕ, Bool, true, false, cond, eqb, List, [], ◌∷◌, ◌++◌}
 use Rattle.std.proofs.Common.{map, Option, Some, None, option_map, Ok, refl}

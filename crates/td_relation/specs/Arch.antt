@@ -12,7 +12,7 @@ pub record ArchWords : Type 0 where
   pub os : List ℕ
   pub cpu : List ℕ
 
--- those that an `Arch` holds
+-- the name, operating system and processor that an `Arch` holds
 abbrev pub words_of : Arch → ArchWords
 words_of a = record { name = a.name.now; os = a.os.now; cpu = a.cpu.now }
 

@@ -12,7 +12,7 @@ words text = filter (λ w. not (length w == 0)) (slice_split is_space text)
 abbrev pub is_negated : List ℕ → Bool
 is_negated word = slice_index word 0 == 33
 
--- a word without the `!` in front of it
+-- a word without the `!` at its beginning
 abbrev pub bare : List ℕ → List ℕ
 bare [] = []
 bare (b ∷ word) = if b == 33 then word else b ∷ word

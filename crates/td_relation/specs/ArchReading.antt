@@ -10,7 +10,7 @@ use Rattle.td_relation.specs.declared.archs.ArchsFault.TheVariants.{BadLine, Twi
 use Rattle.td_relation.specs.Arch.{ArchWords, is_table_name, is_machine_word}
 use Rattle.td_relation.specs.Table.{is_named, is_skipped}
 
--- the architecture whose line it is
+-- the architecture whose line this is
 unfoldable pub arch_at : List ℕ → Option ArchWords
 arch_at line = do
   a ← cut 32 line

@@ -1,4 +1,4 @@
--- Which texts are told as empty: those without any member. That members of whitespace alone are
+-- Which texts are refused as empty: those without any member. That members of only whitespace are
 -- skipped is this project's own.
 use Rattle.std.specs.Prelude.{◌≡◌, ◌↔◌, ◌==◌, ◌||◌, ℕ, Bool, true, List, Err}
 use Rattle.std.specs.List.{list_all}
@@ -10,7 +10,7 @@ use Rattle.td_relation.specs.RelationGrammar.{relation_at}
 abbrev pub parts_members : ℕ → Bool
 parts_members b = (b == 44) || is_space b
 
--- a text is told as empty exactly where it has commas and whitespace alone, or nothing
+-- a text is refused as empty if and only if it has only commas and whitespace, or nothing
 abbrev pub EmptyRelationsAreExact : Type 0
 EmptyRelationsAreExact =
     (text : List ℕ) → (relation_at text ≡ Err Empty) ↔ (list_all parts_members text ≡ true)

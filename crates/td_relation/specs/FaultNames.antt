@@ -4,7 +4,7 @@ use Rattle.td_relation.specs.declared.archs.ArchsFault.{ArchsFault}
 use Rattle.td_relation.specs.declared.archs.ArchsFault.TheVariants.{BadLine, Twice, TooMany}
 use Rattle.td_relation.specs.declared.archs.ArchsFault.TheVariants.{NoMemory}
 
--- the name alone, without the line
+-- only the name of a fault, without the line
 abbrev pub name_of : ArchsFault → List ℕ
 name_of (BadLine number) = codes "BadLine"
 name_of (Twice number) = codes "Twice"

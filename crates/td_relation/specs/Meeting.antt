@@ -34,7 +34,7 @@ abbrev pub is_on : ℕ → Option ℕ → Bool
 is_on place None = true
 is_on place (Some arch) = arch == place
 
--- the same of an offer
+-- an offer is on the architecture at this place
 abbrev pub is_there : ℕ → Offered → Bool
 is_there place offer = is_on place offer.arch
 

@@ -3,7 +3,7 @@ use Rattle.std.specs.Prelude.{ℕ, ◌+◌, List, [], ◌∷◌, map, take, drop
 use Rattle.td_relation.specs.declared.relation.Relation.{Relation}
 use Rattle.td_relation.specs.Asked.{Asked, asked}
 
--- a list cut into pieces of these lengths, one behind the other
+-- a list cut into pieces of these lengths, one after the other
 abbrev pub chunked : {A : Type 0} → List ℕ → List A → List (List A)
 chunked [] xs = []
 chunked (n ∷ ns) xs = take n xs ∷ chunked ns (drop n xs)

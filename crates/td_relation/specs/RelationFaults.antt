@@ -102,7 +102,7 @@ MayHaveArchs text rest =
     (GoesOnWithout (λ b. b == 91) text × (text ≡ rest))
     ⊎ ((inside : List ℕ) × (text ≡ 91 ∷ inside) × HasArchs inside rest)
 
--- The text is build profile lists, with whitespace before each and at the end, or whitespace alone.
+-- The text is build profile lists, with whitespace before each and at the end, or only whitespace.
 pub record AreProfiles (text : List ℕ) : Type 0 where
   pub lists : List SpacedProfiles
   pub back : List ℕ
@@ -138,7 +138,7 @@ HasFault text NoMemory = ⊥
 abbrev pub IsAlternativeText : List ℕ → Type 0
 IsAlternativeText text = (a : SpacedAlternative) × IsSpaced a × (text ≡ spaced_alternative a)
 
--- the text is a member, written with some whitespace, or whitespace alone
+-- the text is a member, written with some whitespace, or only whitespace
 abbrev pub IsMemberText : List ℕ → Type 0
 IsMemberText text = (m : SpacedMember) × MemberIsSpaced m × (text ≡ spaced_member m)
 
@@ -151,14 +151,14 @@ pub record IsFirst (Sound Faulty : List ℕ → Type 0) (pieces : List (List ℕ
   pub sound : AllByRecursion Sound before
   pub faulty : Faulty piece
 
--- a member's fault: it isn't whitespace alone, and the first of the pieces between its bars that is
+-- a member's fault: it isn't only whitespace, and the first of the pieces between its bars that is
 -- no alternative has this fault
 abbrev pub MemberHasFault : RelationFault → List ℕ → Type 0
 MemberHasFault fault member = (is_blank member ≡ false)
     × IsFirst IsAlternativeText (λ text. HasFault text fault) (pieces_of 124 member)
 
 -- a text's first fault: that of the first of the pieces between its commas that is no member; or it
--- has commas and whitespace alone, so no member
+-- has only commas and whitespace, so no member
 abbrev pub IsFirstFault : List ℕ → RelationFault → Type 0
 IsFirstFault text fault =
     IsFirst IsMemberText (MemberHasFault fault) (pieces_of 44 text)

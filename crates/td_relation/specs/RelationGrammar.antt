@@ -34,7 +34,7 @@ abbrev pub ends_a_name : List ℕ → Bool
 ends_a_name text = (length text == 0)
     || ((slice_index text 0 == 40) || ((slice_index text 0 == 91) || (slice_index text 0 == 60)))
 
--- what follows the word behind a colon
+-- what follows the word after a colon; the text itself if there is no colon
 abbrev pub after_colon : List ℕ → Option (List ℕ) → Option (List ℕ)
 after_colon text None = Some text
 after_colon text (Some word) = if nat_lt 0 (length (run is_arch_byte word))
@@ -93,7 +93,7 @@ version_at None text = Err BadOperator
 version_at (Some operator) text = closed operator (reading (run is_version_byte (trimmed text)))
     (strip (codes ")") (trimmed (behind is_version_byte (trimmed text))))
 
--- what stands behind a `(`, if there is one
+-- the restriction after a `(`, if there is one, and what follows
 abbrev pub restricted : List ℕ → Option (List ℕ) → Result (Option Bound × List ℕ) RelationFault
 restricted text None = Ok (None, text)
 restricted text (Some inside) = version_at (operator_at (run is_operator_byte (trimmed inside)))
@@ -105,11 +105,11 @@ restriction_at text = restricted text (strip (codes "(") text)
 
 -- ---- 3. the architecture list
 
--- a word behind a `!`
+-- a word after a `!`
 abbrev pub is_negated_word : (List ℕ → Bool) → List ℕ → Bool
 is_negated_word test word = is_negated word && test (bare word)
 
--- one word or more, all with a `!` in front or none (Policy 7.1)
+-- one word or more, all with a `!` before them or none (Policy 7.1)
 abbrev pub is_arch_list : List (List ℕ) → Bool
 is_arch_list list = nat_lt 0 (length list)
     && (list_all is_arch list || list_all (is_negated_word is_arch) list)
@@ -119,7 +119,7 @@ abbrev pub listed : Option (List ℕ × List ℕ) → Option (Option (List (List
 listed None = None
 listed (Some p) = if is_arch_list (words p.0) then Some (Some (words p.0), trimmed p.1) else None
 
--- what stands behind a `[`, if there is one
+-- the architecture list after a `[`, if there is one, and what follows
 abbrev pub bracketed : List ℕ → Option (List ℕ) → Option (Option (List (List ℕ)) × List ℕ)
 bracketed text None = Some (None, text)
 bracketed text (Some inside) = listed (cut 93 inside)
@@ -134,7 +134,7 @@ archs_at text = bracketed text (strip (codes "[") text)
 abbrev pub is_profile : List ℕ → Bool
 is_profile word = nat_lt 0 (length word) && list_all (λ b. not ((b == 60) || (b == 33))) word
 
--- one word or more, each with a `!` in front or without
+-- one word or more, each with a `!` before it or without
 abbrev pub is_profile_list : List (List ℕ) → Bool
 is_profile_list list = nat_lt 0 (length list) && list_all (λ w. is_profile (bare w)) list
 
@@ -205,7 +205,7 @@ alternative_step seen piece = on_ok (alternative_at piece) (λ a. Ok (seen ++ a 
 abbrev pub member_at : List ℕ → Result (List Asked) RelationFault
 member_at text = over alternative_step [] (slice_split (λ b. b == 124) text)
 
--- the members so far, and the next; one of whitespace alone is skipped (this project's own)
+-- the members so far, and the next; one of only whitespace is skipped (this project's own)
 abbrev pub member_step : List (List Asked) → List ℕ → Result (List (List Asked)) RelationFault
 member_step seen piece = if is_blank piece then Ok seen
     else on_ok (member_at piece) (λ m. Ok (seen ++ m ∷ []))

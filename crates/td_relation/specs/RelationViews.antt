@@ -32,7 +32,7 @@ abbrev pub alternative_read : Result Alternative RelationFault → Result Asked 
 alternative_read (Ok a) = Ok (asked a)
 alternative_read (Err fault) = Err fault
 
--- a fault is the reading's, unless it is want of memory
+-- a fault is the reading's; `NoMemory` may be the answer for any reading
 abbrev pub IsFaultOf : {A : Type 0} → Result A RelationFault → RelationFault → Type 0
 IsFaultOf read NoMemory = Unit {0}
 IsFaultOf read BadName = read ≡ Err BadName

@@ -22,12 +22,12 @@ pub record WrittenBound : Type 0 where
   pub version : List ℕ
   pub parts : Parts
 
--- an architecture list: names and wildcards, all with a `!` in front or none
+-- an architecture list: names and wildcards, all with a `!` before them or none
 pub record WrittenArchs : Type 0 where
   pub negated : Bool
   pub names : List (List ℕ)
 
--- a word of a build profile list: a profile, with a `!` in front or without
+-- a word of a build profile list: a profile, with a `!` before it or without
 pub record WrittenProfile : Type 0 where
   pub negated : Bool
   pub name : List ℕ
@@ -50,7 +50,7 @@ operator_text Equal = codes "="
 operator_text LaterOrEqual = codes ">="
 operator_text Later = codes ">>"
 
--- a word with a `!` in front, or without
+-- a word with a `!` before it, or without
 abbrev pub marked : Bool → List ℕ → List ℕ
 marked true word = 33 ∷ word
 marked false word = word
@@ -119,7 +119,7 @@ abbrev pub ArchsFit : Option WrittenArchs → Type 0
 ArchsFit None = Unit {0}
 ArchsFit (Some l) = (l.names ≢ []) × AllByRecursion (λ n. IsTrue (is_arch n)) l.names
 
--- and so has a build profile list
+-- a build profile list has a word
 abbrev pub ProfilesFit : List WrittenProfile → Type 0
 ProfilesFit l = (l ≢ []) × AllByRecursion (λ p. IsTrue (is_profile_name p.name)) l
 

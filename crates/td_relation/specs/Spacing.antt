@@ -1,6 +1,6 @@
 -- Relations, written with whitespace wherever it is free: Debian Policy 7.1 and 7.5,
 -- deb-src-control(5) on build profiles. That newlines count as whitespace, and that a member may be
--- of whitespace alone, is this project's own.
+-- of only whitespace, is this project's own.
 use Rattle.std.specs.Prelude.{◌≡◌, ◌≢◌, ◌↔◌, ℕ, IsTrue, List, [], ◌∷◌, ◌++◌, Option, Some, None}
 use Rattle.std.specs.Prelude.{option_map, Ok, map, codes}
 use Rattle.std.specs.List.{AllByRecursion, join_by}
@@ -19,8 +19,8 @@ abbrev pub EndsAWord : List ℕ → Type 0
 EndsAWord [] = Unit {0}
 EndsAWord (b ∷ text) = IsTrue (is_space b)
 
--- the text is these words, with whitespace between any two,
--- and maybe in front of the first and behind the last
+-- the text is these words, with whitespace between any two, and maybe before the first and after
+-- the last
 abbrev pub AreWords : List (List ℕ) → List ℕ → Type 0
 AreWords [] text = IsTrue (is_blank text)
 AreWords (word ∷ words) text = (space : List ℕ) × (rest : List ℕ) × (text ≡ space ++ (word ++ rest))
@@ -28,7 +28,7 @@ AreWords (word ∷ words) text = (space : List ℕ) × (rest : List ℕ) × (tex
 
 -- ---- 2. what is written
 
--- a restriction, and the whitespace in front of its `(`, its operator, its version and its `)`
+-- a restriction, and the whitespace before its `(`, its operator, its version and its `)`
 pub record SpacedBound : Type 0 where
   pub bound : WrittenBound
   pub before : List ℕ
@@ -36,19 +36,19 @@ pub record SpacedBound : Type 0 where
   pub before_version : List ℕ
   pub before_end : List ℕ
 
--- an architecture list, the whitespace in front of its `[`, and what stands between the brackets
+-- an architecture list, the whitespace before its `[`, and what stands between the brackets
 pub record SpacedArchs : Type 0 where
   pub list : WrittenArchs
   pub before : List ℕ
   pub inside : List ℕ
 
--- a build profile list, the whitespace in front of its `<`, and what stands up to its `>`
+-- a build profile list, the whitespace before its `<`, and what stands up to its `>`
 pub record SpacedProfiles : Type 0 where
   pub list : List WrittenProfile
   pub before : List ℕ
   pub inside : List ℕ
 
--- an alternative, and the whitespace in front of it and behind it
+-- an alternative, and the whitespace before it and after it
 pub record SpacedAlternative : Type 0 where
   pub front : List ℕ
   pub name : List ℕ
@@ -58,7 +58,7 @@ pub record SpacedAlternative : Type 0 where
   pub profiles : List SpacedProfiles
   pub back : List ℕ
 
--- a member of a relation: alternatives, or whitespace alone
+-- a member of a relation: alternatives, or only whitespace
 pub data SpacedMember : Type 0 where
   Filled : List SpacedAlternative → SpacedMember
   Blank : List ℕ → SpacedMember
@@ -91,18 +91,18 @@ behind_name a = bound_then a.bound (archs_then a.archs (profiles_then a.profiles
 abbrev pub spaced_alternative : SpacedAlternative → List ℕ
 spaced_alternative a = a.front ++ (a.name ++ (qualifier_part a.qualifier ++ behind_name a))
 
--- alternatives stand between bars ..
+-- alternatives stand between bars
 abbrev pub spaced_member : SpacedMember → List ℕ
 spaced_member (Filled m) = join_by spaced_alternative (codes "|") m
 spaced_member (Blank space) = space
 
--- .. and members between commas
+-- members stand between commas
 abbrev pub spaced_relation : List SpacedMember → List ℕ
 spaced_relation r = join_by spaced_member (codes ",") r
 
 -- ---- 4. without its whitespace
 
--- an alternative's parts alone
+-- only the parts of an alternative, without the whitespace
 abbrev pub unspaced : SpacedAlternative → WrittenAlternative
 unspaced a = record {
   name = a.name;
@@ -112,7 +112,7 @@ unspaced a = record {
   profiles = map (λ l. l.list) a.profiles;
 }
 
--- a member of whitespace alone is none
+-- the members of a relation; one of only whitespace is none
 abbrev pub unspaced_members : List SpacedMember → List (List WrittenAlternative)
 unspaced_members [] = []
 unspaced_members (Filled m ∷ r) = map unspaced m ∷ unspaced_members r
@@ -126,13 +126,13 @@ BoundIsSpaced None = Unit {0}
 BoundIsSpaced (Some b) = IsTrue (is_blank b.before) × IsTrue (is_blank b.before_operator)
     × IsTrue (is_blank b.before_version) × IsTrue (is_blank b.before_end)
 
--- so is what stands in front of an architecture list, and around its words
+-- what is before an architecture list is whitespace or nothing, and so is what is around its words
 abbrev pub ArchsAreSpaced : Option SpacedArchs → Type 0
 ArchsAreSpaced None = Unit {0}
 ArchsAreSpaced (Some l) = IsTrue (is_blank l.before)
     × AreWords (map (marked l.list.negated) l.list.names) l.inside
 
--- so is what stands in front of a build profile list, and around its words
+-- what is before a build profile list is whitespace or nothing, and so is what is around its words
 abbrev pub ProfilesAreSpaced : SpacedProfiles → Type 0
 ProfilesAreSpaced l = IsTrue (is_blank l.before) × AreWords (map profile_text l.list) l.inside
 
@@ -151,7 +151,7 @@ abbrev pub MemberIsSpaced : SpacedMember → Type 0
 MemberIsSpaced (Filled m) = (m ≢ []) × AllByRecursion IsSpaced m
 MemberIsSpaced (Blank space) = IsTrue (is_blank space)
 
--- a relation has a member that isn't of whitespace alone
+-- a relation has a member that isn't of only whitespace
 abbrev pub RelationIsSpaced : List SpacedMember → Type 0
 RelationIsSpaced r = AllByRecursion MemberIsSpaced r × (unspaced_members r ≢ [])
 
@@ -162,7 +162,7 @@ abbrev pub SpacedRelationsAreRead : Type 0
 SpacedRelationsAreRead = (r : List SpacedMember) → RelationIsSpaced r
     → relation_at (spaced_relation r) ≡ Ok (map (λ m. map alternative_asked m) (unspaced_members r))
 
--- so whitespace, and members of it alone, make no difference
+-- relations that differ only in whitespace, and in members of it, are read alike
 abbrev pub WhitespaceMakesNoDifference : Type 0
 WhitespaceMakesNoDifference = (r s : List SpacedMember) → RelationIsSpaced r → RelationIsSpaced s
     → unspaced_members r ≡ unspaced_members s
@@ -175,7 +175,7 @@ pub record IsRelation (text : List ℕ) (asked : List (List Asked)) : Type 0 whe
   pub spelled : text ≡ spaced_relation written
   pub asks : asked ≡ map (λ m. map alternative_asked m) (unspaced_members written)
 
--- a text is read so exactly where it is a relation that asks so
+-- a text is read as what it asks if and only if it is a relation that asks this
 abbrev pub RelationsAreExact : Type 0
 RelationsAreExact = (text : List ℕ) (asked : List (List Asked))
     → (relation_at text ≡ Ok asked) ↔ IsRelation text asked

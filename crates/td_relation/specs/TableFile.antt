@@ -9,7 +9,8 @@ use Rattle.td_relation.specs.declared.archs.ArchsFault.TheVariants.{NoMemory}
 use Rattle.td_relation.specs.Arch.{ArchWords, arch_line, ArchFits}
 use Rattle.td_relation.specs.Table.{Fresh, is_named, is_skipped}
 
--- behind the architectures seen, the lines that aren't skipped are those of these, in this order
+-- the lines that aren't skipped are those of these architectures, in this order, after the
+-- architectures seen
 pub record AreLinesOf (seen archs : List ArchWords) (lines : List (List ℕ)) : Type 0 where
   pub spelled : filter (λ line. not (is_skipped line)) lines ≡ map arch_line archs
   pub fits : AllByRecursion ArchFits archs
@@ -27,7 +28,7 @@ pub record IsLineNamed (is : Bool) (seen : List ArchWords) (line : List ℕ) : T
   pub fits : ArchFits arch
   pub named : is_named seen arch.name ≡ is
 
--- what is wrong with a line that isn't skipped and has this number, behind the architectures seen
+-- what is wrong with a line that isn't skipped and has this number, after the architectures seen
 abbrev pub IsFaulty : List ArchWords → ℕ → List ℕ → ArchsFault → Type 0
 IsFaulty seen number line (BadLine n) = (n ≡ number)
     × ((a : ArchWords) → ArchFits a → line ≢ arch_line a)
@@ -46,7 +47,7 @@ pub record IsFirstFault (lines : List (List ℕ)) (e : ArchsFault) : Type 0 wher
   pub kept : is_skipped line ≡ false
   pub faulty : IsFaulty seen (1 + length before) line e
 
--- a fault is that of the first faulty line; want of memory may stand in place of any answer
+-- a fault is that of the first faulty line; `NoMemory` may be the answer for any lines
 abbrev pub FaultOf : List (List ℕ) → ArchsFault → Type 0
 FaultOf lines NoMemory = Unit {0}
 FaultOf lines e = IsFirstFault lines e

@@ -98,7 +98,7 @@ fn read_parts(text: &str) -> Result<Version<'_>, VersionFault>
     Version::read(text)
 }
 
-/// The version behind an operator, its `)`, and what follows.
+/// The version after an operator, its `)`, and what follows.
 fn read_version(
     operator: Operator,
     text: &str,
@@ -137,7 +137,7 @@ fn read_restriction(text: &str) -> Result<(Option<Restriction<'_>>, &str), Relat
     }
 }
 
-/// What stands behind a `[`.
+/// The architecture list after a `[`, and what follows it.
 fn read_list(inside: &str) -> Option<(Option<&str>, &str)>
     ensures { option_map archs_read result ≡ bracketed inside.now (Some inside.now) }
 {

@@ -18,7 +18,7 @@ pub struct Arch<'a> {
     pub cpu: &'a str,
 }
 
-// Whether the word is the two texts, one behind the other.
+// Whether the word is the two texts, one after the other.
 fn is_joined(word: &[u8], front: &[u8], back: &[u8]) -> bool
     ensures { result ≡ bytes_eq word.now (front.now ++ back.now) }
 {

@@ -13,7 +13,7 @@ ghost use Rattle.td_relation.specs.RelationGrammar.{is_profile_list as is_profil
 use crate::arch::Arch;
 use td_text::{are_arch_bytes, is_space};
 
-/// A word without the `!` in front of it.
+/// A word without the `!` at its beginning.
 fn bare(word: &[u8]) -> &[u8]
     ensures { result.now ≡ bare_of word.now }
 {

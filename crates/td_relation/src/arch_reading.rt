@@ -28,7 +28,7 @@ fn is_named(list: &[Arch<'_>], name: &str) -> bool
     list.iter().any(|a| a.name == name)
 }
 
-// The architecture of a line that isn't skipped, behind those that were read. It takes no memory.
+// The architecture of a line that isn't skipped, after those that were read. It takes no memory.
 fn next_arch<'a>(list: &[Arch<'a>], number: usize, line: &'a str) -> Result<Arch<'a>, ArchsFault>
     ensures ok { IfOk result (λ a. add_arch number (map words_of list.now) (arch_at line.now)
         ≡ Ok (map words_of list.now ++ words_of a ∷ [])) }
@@ -49,7 +49,7 @@ fn next_arch<'a>(list: &[Arch<'a>], number: usize, line: &'a str) -> Result<Arch
     Ok(arch)
 }
 
-// Adds an architecture behind the others.
+// Adds an architecture after the others.
 fn push_arch<'a>(list: &mut Vec<Arch<'a>>, arch: Arch<'a>) -> Result<(), ArchsFault>
     ensures ok { OnOk result
         (map words_of list.new.items ≡ map words_of list.old.items ++ words_of arch.entry ∷ []) }
@@ -68,7 +68,8 @@ pub fn read_list(alloc: Global, text: &str) -> Result<Vec<Arch<'_>>, ArchsFault>
     ensures ok { IfOk result (λ list. archs_at text.now ≡ Ok (map words_of list.items)) }
     ensures few { IfOk result (λ list. length list.items ≤ max_archs) }
     ensures err { IfErr result (λ e. Fails e (archs_at text.now)) }
-    // A first line that is no architecture's is told whatever memory there is.
+    // If the first line that isn't skipped is no architecture's, that is answered whatever memory
+    // there is.
     ensures certain { (line : List ℕ) → first_kept (lines_of text.now) ≡ Some line
         → arch_at line ≡ None → IfErr result (λ e. e ≢ ArchsFault.NoMemory) }
 {

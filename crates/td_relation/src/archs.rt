@@ -105,7 +105,7 @@ impl<'a> Archs<'a> {
         // A text with a fault is refused for it, unless memory runs out.
         ensures refused { (fault : ArchsFault) → IsFirstFault (lines_of text.now) fault
             → IsRefusedFor fault result }
-        // A fault before which no architecture stands is told whatever memory there is.
+        // A fault before which there is no architecture is answered whatever memory there is.
         ensures certain { (fault : ArchsFault) → (f : IsFirstFault (lines_of text.now) fault)
             → f.seen ≡ [] → IsErrOf result fault }
     {

@@ -12,7 +12,7 @@ pub fn written_relations_are_read_again()
     ensures { RelationsAreReadAgain }
 {}
 
-/// Whether a relation is met hangs on what is offered under the names that it names, and more
+/// Whether a relation is met depends on what is offered under the names that it names, and more
 /// offers never undo it; an architecture list counts as its names say.
 pub fn relations_ask_for_what_they_name()
     ensures others { OthersMakeNoDifference }
@@ -20,20 +20,20 @@ pub fn relations_ask_for_what_they_name()
     ensures lists { ListsCount }
 {}
 
-/// A relation with any whitespace between its parts, and with members of whitespace alone, is read
+/// A relation with any whitespace between its parts, and with members of only whitespace, is read
 /// as what its parts ask.
 pub fn spaced_relations_are_read()
     ensures read { SpacedRelationsAreRead }
     ensures same { WhitespaceMakesNoDifference }
 {}
 
-/// A text is read as a relation exactly where it is one, written with some whitespace, and asks
+/// A text is read as a relation if and only if it is one, written with some whitespace, and asks
 /// what its parts ask.
 pub fn relations_are_read_exactly()
     ensures { RelationsAreExact }
 {}
 
-/// A text is refused as empty exactly where it has commas and whitespace alone, or nothing.
+/// A text is refused as empty if and only if it has only commas and whitespace, or nothing.
 pub fn texts_without_members_are_empty()
     ensures { EmptyRelationsAreExact }
 {}

@@ -5,7 +5,7 @@
 //! on offer is any `Offering`; `Offers` is one. `Relation::members` goes through what a relation
 //! asks. All of them hold slices of the texts, and nothing but reading, `Offers::push` and
 //! `Archs::copy` takes memory.
-//! Promised: a table is read exactly where it is one, a relation exactly where it is one as
+//! Promised: a table is read if and only if it is one, a relation if and only if it is one as
 //! `specs/Spacing.antt` says, else its first fault is named, as `specs/RelationFaults.antt` says;
 //! what is written as `specs/RelationWriting.antt` says is read again; and a relation is met as
 //! `specs/Meeting.antt` says.

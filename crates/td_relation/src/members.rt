@@ -13,7 +13,7 @@ impl<'r, 'a> Members<'r, 'a> {
     ghost use Rattle.std.specs.Prelude.{◌≡◌, []};
     ghost use Rattle.td_relation.specs.MembersLeft.{members_left};
 
-    /// Those of a relation that asks nothing.
+    /// The members of a relation that asks nothing.
     pub fn none() -> Members<'r, 'a>
         ensures { members_left result ≡ [] }
     {

@@ -8,8 +8,8 @@ ghost use Rattle.td_relation.specs.Offers.{Offered, offered, offers_of};
 use crate::offers::{Offer, Offers};
 use crate::relation::Restriction;
 
-/// What is on offer, found by names. `Offer::suits` tells of one offer whether it is such as is
-/// asked; an `impl` asks it of each offer that it has under the name.
+/// What is on offer, found by names. `Offer::suits` says of one offer whether it is what is asked
+/// for; an `impl` asks it of each offer that it has under the name.
 pub trait Offering {
     // The offers of a name.
     ghost on_offer: { Self → List ℕ → List Offered };

@@ -63,7 +63,7 @@ impl<'a> Offers<'a> {
         }
     }
 
-    /// Adds an offer behind those of its name. `None` for the architecture is `all`.
+    /// Adds an offer after those of its name. `None` for the architecture is `all`.
     pub fn push(
         &mut self,
         name: &'a str,
@@ -89,7 +89,7 @@ impl<'a> Offers<'a> {
         ensures some { IfSome result (λ list. 0 < length list.now) }
     {
         match self.by_name.get(name) {
-            // (a list may be empty: memory was wanting for its first offer)
+            // (a list may be empty: memory ran out for its first offer)
             Some(list) if !list.is_empty() => Some(list.as_slice()),
             _ => None,
         }

@@ -79,16 +79,17 @@ impl<'a> Relation<'a> {
     ghost use Rattle.td_relation.specs.TableView.{table};
     ghost use Rattle.td_relation.specs.Arch.{words_of};
 
-    /// Reads a relation: members between commas, alternatives between bars. A member of whitespace
-    /// alone is skipped. The first fault from the left decides: `relations_are_refused_exactly`
-    /// says which that is, and `relations_are_read_exactly` which texts are read.
+    /// Reads a relation: members between commas, alternatives between bars. A member of only
+    /// whitespace is skipped. The first fault from the left decides:
+    /// `relations_are_refused_exactly` says which that is, and `relations_are_read_exactly` which
+    /// texts are read.
     pub fn read(alloc: Global, text: &'a str) -> Result<Relation<'a>, RelationFault>
         // What is read is what the text asks.
         ensures found { IfOk result (λ r. relation_at text.now ≡ Ok (members_of r)) }
         // A relation is read, unless memory runs out.
         ensures only { (ms : List (List Asked)) → relation_at text.now ≡ Ok ms
             → MatchResult result (λ r. members_of r ≡ ms) (λ e. e ≡ RelationFault.NoMemory) }
-        // A fault is the text's, or want of memory.
+        // A fault is the text's, or memory ran out.
         ensures fault { IfErr result (λ e. IsFaultOf (relation_at text.now) e) }
     {
         read_relation(alloc, text)

@@ -5,7 +5,7 @@ ghost use Rattle.td_text.specs.Runs.{behind, run};
 ghost use Rattle.td_relation.specs.RelationGrammar.{is_operator_byte as is_operator_byte_of};
 ghost use Rattle.td_relation.specs.RelationGrammar.{is_version_byte as is_version_byte_of};
 
-/// 1 at each byte that a version may have, and else 0: one look in the place of up to eleven
+/// 1 at each byte that a version may have, and else 0: one look instead of up to eleven
 /// comparisons.
 const VERSION_BYTES: [u8; 256] = [
     0, 0, 0, 0, 0, 0, 0, 0, 0, 0, 0, 0, 0, 0, 0, 0, 0, 0, 0, 0, 0, 0, 0, 0, 0, 0, 0, 0, 0, 0, 0, 0,
@@ -30,7 +30,7 @@ fn operator_len(bytes: &[u8]) -> usize
     bytes.iter().take_while(|b| is_operator_byte(**b)).count()
 }
 
-/// The longest run of such bytes at the front, and what follows it.
+/// The longest run of bytes of operators at the front, and what follows it.
 pub fn operator_run(text: &str) -> (&str, &str)
     ensures run { result.0.now ≡ run is_operator_byte_of text.now }
     ensures behind { result.1.now ≡ behind is_operator_byte_of text.now }
@@ -50,7 +50,7 @@ fn version_len(bytes: &[u8]) -> usize
     bytes.iter().take_while(|b| is_version_byte(**b)).count()
 }
 
-/// The longest run of such bytes at the front, and what follows it.
+/// The longest run of bytes of versions at the front, and what follows it.
 pub fn version_run(text: &str) -> (&str, &str)
     ensures run { result.0.now ≡ run is_version_byte_of text.now }
     ensures behind { result.1.now ≡ behind is_version_byte_of text.now }

@@ -34,7 +34,7 @@ with_group x p = option_map (λ g. (p.0, g)) (group_of x p.0)
 abbrev pub grouped : Transition → Table → List (Key × ℕ)
 grouped x rows = filter_map (with_group x) rows
 
--- whether this is the group
+-- whether a row's group is this one
 abbrev pub is_group : Option ℕ → ℕ → Bool
 is_group None group = false
 is_group (Some g) group = g == group

@@ -7,7 +7,7 @@ pub record KeyModel : Type 0 where
   pub source : List ℕ
   pub arch : List ℕ
 
--- what stands before the slash at a place, and what stands behind it
+-- what comes before the slash at a place, and what comes after it
 abbrev pub key_in : List ℕ → ℕ → KeyModel
 key_in text slash = record { source = take slash text; arch = drop (slash + 1) text }
 

@@ -14,7 +14,7 @@ pub record KeyFits (k : Key) : Type 0 where
   pub source : IsTrue (is_name k.source)
   pub arch : IsTrue (is_arch k.arch)
 
--- the key whose source and architecture stand before and behind the first byte c of a text
+-- the key whose source comes before the first byte c of a text, and whose architecture comes after
 abbrev pub key_apart : ℕ → List ℕ → Option Key
 key_apart c text = cut c text >>= λ p.
     if is_name p.0 && is_arch p.1 then Some (record { source = p.0; arch = p.1 }) else None

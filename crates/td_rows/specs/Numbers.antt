@@ -1,4 +1,4 @@
--- Rebuild numbers. This project's own, but for `+bN`, the binary NMU versions of deb-version(7).
+-- Rebuild numbers. This project's own, except `+bN`, the binary NMU versions of deb-version(7).
 use Rattle.std.specs.Prelude.{ℕ, ◌+◌, Option, Some, None}
 
 -- the number of a rebuild: the one that is asked for, or the next

@@ -10,7 +10,7 @@ use Rattle.td_rows.specs.KeyText.{key_text, KeyFits}
 use Rattle.td_rows.specs.StateWord.{state_word, StateFits}
 use Rattle.td_rows.specs.Notes.{notes, NotesFit}
 
--- what a row's line says of it behind its key
+-- what a row's line says of it after its key
 abbrev pub row_words : Row → List ℕ
 row_words row = state_word row.state ++ 32 ∷
     (signed_decimal row.priority ++ 32 ∷ (decimal row.number ++ notes (row.extra, row.dep_wait)))

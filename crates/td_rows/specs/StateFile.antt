@@ -28,7 +28,7 @@ abbrev pub Fresh : Table → Table → Type 0
 Fresh seen [] = Unit {0}
 Fresh seen (p ∷ rows) = (names (keys_of seen) p.0 ≡ false) × Fresh (seen ++ p ∷ []) rows
 
--- behind the rows seen, the lines that aren't empty are those of these rows, in this order
+-- the lines that aren't empty are those of these rows, in this order, after the rows seen
 pub record AreLinesOf (seen rows : Table) (lines : List (List ℕ)) : Type 0 where
   pub spelled : filter is_filled lines ≡ map row_line rows
   pub opening : AllByRecursion Opens rows
@@ -56,7 +56,7 @@ pub record IsRepeatedLine (seen : Table) (line : List ℕ) : Type 0 where
   pub fits : RowFits row
   pub repeated : names (keys_of seen) row.0 ≡ true
 
--- what is wrong with a filled line that has this number, behind the rows seen
+-- what is wrong with a filled line that has this number, after the rows seen
 abbrev pub IsFaulty : Table → ℕ → List ℕ → StateFault → Type 0
 IsFaulty seen number line (BadLine n) = (n ≡ number)
     × ((p : Key × Row) → RowFits p → line ≢ row_line p)
@@ -78,7 +78,7 @@ pub record IsFirstFault (lines : List (List ℕ)) (e : StateFault) : Type 0 wher
   pub filled : is_filled line ≡ true
   pub faulty : IsFaulty seen (1 + length before) line e
 
--- a fault is that of the first faulty line; want of memory may stand in place of any answer
+-- a fault is that of the first faulty line; `NoMemory` may be the answer for any lines
 abbrev pub FaultOf : List (List ℕ) → StateFault → Type 0
 FaultOf lines NoMemory = Unit {0}
 FaultOf lines e = IsFirstFault lines e

@@ -30,7 +30,7 @@ state_step number seen line = if length line == 0 then Ok seen
 abbrev pub state_rows : List ℕ → Result Table StateFault
 state_rows text = over_lines state_step 1 [] (lines_of text)
 
--- a fault is the reading's, unless it is want of memory
+-- a fault is the reading's; `NoMemory` may be the answer for any reading
 abbrev pub Fails : StateFault → Result Table StateFault → Type 0
 Fails NoMemory read = Unit {0}
 Fails (BadLine n) read = read ≡ Err (BadLine n)

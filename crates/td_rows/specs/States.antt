@@ -18,7 +18,7 @@ gives_back Installed = false
 gives_back BdUninstallable = false
 gives_back NotForUs = false
 
--- the states in which a build can be told to wait
+-- the states in which a build can be made to wait
 abbrev pub waits_for : State → Bool
 waits_for NeedsBuild = true
 waits_for BuildAttempted = true

@@ -3,8 +3,8 @@
 //!
 //! Start at `Row` and `Kind`. `kind::applies` says where a kind may be journalled, and
 //! `specs/Meaning.antt` has the whole table. `Rows` is the finite map from keys to rows.
-//! Promised: a kind writes its own cells alone, and giving these cells their values back takes
-//! it back, also past later kinds that share no cell with it (`laws`).
+//! Promised: a kind writes only its own cells, and giving these cells their values back takes it
+//! back, also past later kinds that share no cell with it (`laws`).
 #![tactic(auto)]
 
 mod cells;

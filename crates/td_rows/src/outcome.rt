@@ -10,7 +10,7 @@ pub enum Outcome {
     Built,
     Attempted,
     GivenBack,
-    /// It waits for what the relation asks.
+    /// The build waits for what the relation asks.
     Waits(Line),
 }
 

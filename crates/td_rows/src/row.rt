@@ -15,7 +15,7 @@ pub struct Row {
     pub number: RebuildNumber,
     /// The relation that the build waits for; empty where it waits for none.
     pub dep_wait: Line,
-    /// The relation that the rebuild needs beside its build dependencies; empty where none.
+    /// The relation that the rebuild needs in addition to its build dependencies; empty if none.
     pub extra: Line,
 }
 

@@ -20,7 +20,7 @@ use indexmap::IndexMap;
 use std::alloc::{AllocError, Global};
 use td_text::next_line;
 
-// Adds a row behind the others.
+// Adds a row after the others.
 fn push_row(rows: &mut IndexMap<Key, Row>, key: Key, row: Row) -> Result<(), StateFault>
     requires { row_of rows.old.entries key ≡ None }
     ensures ok { OnOk result (rows.new.entries ≡ rows.old.entries ++ (key, row) ∷ []) }
@@ -32,7 +32,7 @@ fn push_row(rows: &mut IndexMap<Key, Row>, key: Key, row: Row) -> Result<(), Sta
     }
 }
 
-// The key and the row of a line that isn't empty, behind the rows that were read.
+// The key and the row of a line that isn't empty, after the rows that were read.
 fn opening_row(
     alloc: Global,
     rows: &IndexMap<Key, Row>,

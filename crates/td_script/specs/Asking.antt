@@ -1,4 +1,4 @@
--- What those are asked who answer a script, and what they may tell of it. This project's own.
+-- What those who answer a script are asked, and what they may answer. This project's own.
 use Rattle.std.specs.Prelude.{◌≡◌, ◌<◌, ◌^◌, ◌-◌, ℕ, List, [], ◌∷◌, Option, Result, IfErr, IfOk}
 use Rattle.std.specs.Prelude.{IfSome, length, option_map}
 use Rattle.td_core.specs.Phases.{NoneBuilt}

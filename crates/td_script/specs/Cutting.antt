@@ -1,4 +1,4 @@
--- A script that is cut in two behind a line: the second part over the journal that the first one
+-- A script that is cut in two after a line: the second part over the journal that the first one
 -- leaves. This project's own.
 use Rattle.std.specs.Prelude.{◌≡◌, ℕ, ◌+◌, ◌<◌, ◌^◌, List, [], ◌∷◌, ◌++◌, Some, length}
 use Rattle.td_journal.specs.JournalFile.{IsJournalText}

@@ -19,7 +19,7 @@ pub record IsPut (text : List ℕ) (is : Bool) (before now : List ℕ) (refused 
   pub text_is : now ≡ before ++ text
   pub refusal : refused ≡ is
 
--- the line of the entry that a journal has under a number, and a text behind it
+-- the line of the entry that a journal has under a number, and a text after it
 abbrev pub IsEntryPut : List Marked → ℕ → List ℕ → List ℕ → List ℕ → Bool → Type 0
 IsEntryPut ms n behind before now refused =
     (m : Marked) → entry_at ms n ≡ Some m

@@ -1,4 +1,4 @@
--- By what lines are answered, as the code is lent it. This project's own.
+-- The settings by which lines are answered, as the code is lent them. This project's own.
 use Rattle.std.specs.Prelude.{◌≡◌, ℕ, List, Option, IfSome, map, option_map}
 use Rattle.std.specs.Borrow.{Bor}
 use Rattle.atomic_table.specs.Seated.{TableId}

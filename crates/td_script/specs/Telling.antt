@@ -1,4 +1,4 @@
--- What may be told of a script. This project's own.
+-- What a script may be answered with. This project's own.
 use Rattle.std.specs.Prelude.{ℕ, List}
 use Rattle.td_core.specs.History.{History}
 use Rattle.td_script.specs.Replies.{Setting}

@@ -32,7 +32,7 @@ output rows steps = text_of (map answer_line (answers rows steps))
 abbrev pub any_refused : Table → List Step → Bool
 any_refused rows steps = list_any is_refused (answers rows steps)
 
--- what is told of a simulation
+-- the answer to a simulation: its text, and whether a step was refused
 pub record Tells (rows : Table) (steps : List Step) (told : Simulated) : Type 0 where
   pub text : string_bytes told.text ≡ output rows steps
   pub refused : told.refused ≡ any_refused rows steps

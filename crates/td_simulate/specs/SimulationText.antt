@@ -16,20 +16,20 @@ use Rattle.td_simulate.specs.StepLines.{step_line, StepFits}
 abbrev pub is_mark : List ℕ → Bool
 is_mark line = bytes_eq line (codes "steps")
 
--- of the lines of a text, what stands before the line `steps`; the whole text where there is none
+-- the part of a text before the line `steps`, by the text's lines; the whole text if there is none
 unfoldable pub opening_text : List (List ℕ) → List ℕ
 opening_text [] = []
 opening_text (line ∷ []) = if is_mark line then [] else line
 opening_text (line ∷ next ∷ lines) = if is_mark line then []
     else (line ++ 10 ∷ opening_text (next ∷ lines))
 
--- the lines behind the line `steps`, the last of which may lack its newline;
--- none where there is no such line
+-- the lines after the line `steps`, the last of which may lack its newline; none if there is no
+-- such line
 unfoldable pub lines_after : List (List ℕ) → List (List ℕ)
 lines_after [] = []
 lines_after (line ∷ lines) = if is_mark line then ended lines else lines_after lines
 
--- the number of the line behind the line `steps`, where the first of the lines has the number given
+-- the number of the line after the line `steps`; the first of the lines has the number given
 unfoldable pub number_after : ℕ → List (List ℕ) → ℕ
 number_after number [] = number
 number_after number (line ∷ lines) = if is_mark line then number + 1
@@ -48,19 +48,20 @@ pub record IsSimulation (text : List ℕ) (t : Table) (ss : List Step) : Type 0 
 abbrev pub IsFirstBad : ℕ → List (List ℕ) → ℕ → Type 0
 IsFirstBad first lines number = IsFirstOther step_line StepFits first lines number
 
--- of a fault among the lines of steps
+-- which faults the lines of steps have; the first of the lines has the number given
 abbrev pub StepsFault : ℕ → List (List ℕ) → SimulationFault → Type 0
 StepsFault first lines (Opening e) = ⊥
 StepsFault first lines (BadStep number) = IsFirstBad first lines number
 StepsFault first lines NoMemory = Unit {0}
 
--- the opening rows are such, and behind them the line with this number isn't a step's
+-- the opening rows are those of a state file, and among the lines after `steps` the first that
+-- isn't a step's has this number
 pub record IsBadStep (text : List ℕ) (number : ℕ) : Type 0 where
   pub rows : Table
   pub opening : IsStateFile (lines_of (opening_text (lines_of text))) rows
   pub bad : IsFirstBad (number_after 1 (lines_of text)) (lines_after (lines_of text)) number
 
--- a fault is that of the first faulty line; want of memory may stand in place of any answer
+-- a fault is that of the first faulty line; `NoMemory` may be the answer for any text
 abbrev pub FaultOf : List ℕ → SimulationFault → Type 0
 FaultOf text (Opening e) = IsFirstFault (lines_of (opening_text (lines_of text))) e
 FaultOf text (BadStep number) = IsBadStep text number

@@ -32,7 +32,7 @@ verb_at word =
     else (if bytes_eq word (codes "release") then Some Release
     else (if bytes_eq word (codes "arrive") then Some Arrive else None))))))))
 
--- a builder's number, and what follows the space behind it
+-- a builder's number, and what follows the space after it
 unfoldable pub builder_at : List ℕ → Option (ℕ × List ℕ)
 builder_at rest = do
   p ← cut 32 rest
@@ -53,7 +53,7 @@ finish_at rest = do
   outcome ← ending_at p.1
   Some (steps.Finish p.0 outcome)
 
--- a step by its verb, and what follows the space behind that
+-- a step by its verb, and what follows the space after that
 abbrev pub by_verb : Verb → List ℕ → Option Step
 by_verb Offer rest = key_at rest >>= λ k. Some (steps.Offer k)
 by_verb Withdraw rest = key_at rest >>= λ k. Some (steps.Withdraw k)
@@ -83,11 +83,11 @@ abbrev pub by_word : Option Verb → List ℕ → List ℕ → Option Step
 by_word (Some verb) word rest = strip (codes " ") rest >>= by_verb verb
 by_word None word rest = commit_at word rest
 
--- the step whose line it is: a sweep has one word and nothing behind it
+-- the step whose line this is: a sweep has one word and nothing after it
 unfoldable pub step_at : List ℕ → Option Step
 step_at line = if bytes_eq line (codes "sweep") then Some steps.Sweep
     else by_word (verb_at (part 32 line).0) (part 32 line).0 (part 32 line).1
 
--- a line is read as a step exactly where it is the step's
+-- a line is read as a step if and only if it is the step's
 abbrev pub StepsAreExact : Type 0
 StepsAreExact = Exact step_at step_line StepFits

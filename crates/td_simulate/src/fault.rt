@@ -18,7 +18,7 @@ pub enum SimulationFault {
     NoMemory,
 }
 
-/// A fault of the opening rows as one of the whole; want of memory has no place.
+/// A fault of the opening rows as one of the whole; `NoMemory` stays what it is.
 pub fn of_opening(fault: StateFault) -> SimulationFault
     ensures { result ≡ of_opening fault }
 {
@@ -29,7 +29,7 @@ pub fn of_opening(fault: StateFault) -> SimulationFault
 }
 
 impl SimulationFault {
-    /// The name of the fault. The program prints it, but for want of memory.
+    /// The name of the fault. The program prints it, except `NoMemory`.
     pub fn name(self) -> &'static str
         ensures { result.now ≡ fault_name self }
     {

@@ -3,9 +3,10 @@
 //! Start at `simulate_text`; `read_simulation` is its first half. A line of the text is a row's or
 //! empty, the word `steps`, or a step's (`read_step`); a line of the answer is that of a step's
 //! answer, the word `rows`, or a row's.
-//! Promised: the text is read exactly where it is opening rows and steps, and else its first
-//! faulty line is named, or that there are too many rows; what is told then is what the core
-//! answers to these steps from these rows, in their order, and the rows after the last of them.
+//! Promised, unless memory runs out: the text is read if and only if it is opening rows and steps,
+//! and else its first faulty line is named, or that there are too many rows; the answer is then
+//! what the core answers to these steps from these rows, in their order, and the rows after the
+//! last of them.
 #![tactic(auto)]
 
 mod answer_line;

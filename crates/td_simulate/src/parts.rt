@@ -10,14 +10,14 @@ use td_text::{behind, next_line};
 pub struct Parts<'a> {
     /// What stands before the line `steps`.
     pub opening: &'a str,
-    /// What stands behind it.
+    /// What comes after the line `steps`.
     pub steps: &'a str,
-    /// The number of the line behind it, if anything stands there.
+    /// The number of the line after the line `steps`, if there is one.
     pub first: usize,
 }
 
-/// Parts a text at its first line `steps`. Where there is none, nothing stands behind it, whose
-/// line has no number.
+/// Parts a text at its first line `steps`. If there is no such line, nothing comes after it, and
+/// the line after it has no number.
 pub fn parts_of(text: &str) -> Parts
     ensures opening { result.opening.now ≡ opening_text (lines_of text.now) }
     ensures steps { ended (lines_of result.steps.now) ≡ lines_after (lines_of text.now) }

@@ -1,4 +1,4 @@
-//! A simulation: its text, read, and what is told of it.
+//! A simulation: its text, read, and its answer.
 ghost use Rattle.std.specs.Prelude.{◌≡◌, ◌∷◌, ◌++◌, List, map, codes};
 ghost use Rattle.std.specs.Prelude.{IfOk, IfErr, OnOk, MatchResult};
 ghost use Rattle.std.specs.List.{list_any};
@@ -25,7 +25,7 @@ use td_core::{Answer, Step, World, run};
 use td_rows::{MAX_BUILDERS, Rows, read_state, rows_text};
 use td_supply::Supply;
 
-/// What is told of a simulation.
+/// The answer to a simulation.
 #[derive(Drop)]
 pub struct Simulated {
     /// A line for each answer, the word `rows`, and a line for each row.
@@ -92,7 +92,7 @@ fn run_without_offers<'a>(
     run(alloc, rows, Supply::empty(alloc), builders, steps)
 }
 
-// What is told of these answers, and of the rows behind them.
+// The text of these answers, and of the rows after them, and whether one is a refusal.
 fn told_of(alloc: Global, rows: &Rows, answers: &[Answer]) -> Result<Simulated, AllocError>
     ensures text { IfOk result (λ told. string_bytes told.text
         ≡ text_of (map answer_line answers.now) ++ text_of (codes "rows" ∷ map row_line rows.now)) }
@@ -106,7 +106,7 @@ fn told_of(alloc: Global, rows: &Rows, answers: &[Answer]) -> Result<Simulated, 
     Ok(Simulated { text, refused })
 }
 
-// What is told of these steps from these rows.
+// The answer to these steps from these rows.
 fn tell(alloc: Global, rows: Rows, steps: Vec<Step>) -> Result<Simulated, AllocError>
     requires { NoneBuilt rows }
     ensures { IfOk result (Tells rows steps.items) }
@@ -118,10 +118,10 @@ fn tell(alloc: Global, rows: Rows, steps: Vec<Step>) -> Result<Simulated, AllocE
 /// Takes the steps of a simulation's text one after the other, and tells their answers and the
 /// rows after the last of them.
 pub fn simulate_text(alloc: Global, text: &str) -> Result<Simulated, SimulationFault>
-    // What is told is told of the simulation that the text is.
+    // The answer is that of the simulation that the text is.
     ensures found { IfOk result (λ told.
         (t : Table) × (ss : List StepValue) × IsSimulation text.now t ss × Tells t ss told) }
-    // Of a simulation it is told, unless memory runs out.
+    // A simulation is answered, unless memory runs out.
     ensures only { (t : Table) (ss : List StepValue) → IsSimulation text.now t ss
         → MatchResult result (Tells t ss) (λ e. e ≡ SimulationFault.NoMemory) }
     ensures fault { IfErr result (FaultOf text.now) }

@@ -126,7 +126,7 @@ pub fn read_step(alloc: Global, line: &str) -> Result<Option<Step>, AllocError>
     }
 }
 
-/// A line is read as a step exactly where it is the line of that step.
+/// A line is read as a step if and only if it is the line of that step.
 pub fn step_lines_are_exact()
     ensures { StepsAreExact }
 {}

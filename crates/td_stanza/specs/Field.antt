@@ -16,12 +16,12 @@ pub record Entry : Type 0 where
 abbrev pub is_name_byte : ℕ → Bool
 is_name_byte b = (nat_le 33 b && nat_le b 57) || (nat_le 59 b && nat_le b 126)
 
--- a field's name: not empty, and neither `#` nor `-` in front (Debian Policy 5.1)
+-- a field's name: not empty, and beginning with neither `#` nor `-` (Debian Policy 5.1)
 abbrev pub is_field_name : List ℕ → Bool
 is_field_name name = nat_lt 0 (length name) &&
     (not ((slice_index name 0 == 35) || (slice_index name 0 == 45)) && list_all is_name_byte name)
 
--- the same name: the case of ASCII letters doesn't count (Debian Policy 5.1)
+-- two names are the same: the case of ASCII letters doesn't count (Debian Policy 5.1)
 abbrev pub is_same_name : List ℕ → List ℕ → Bool
 is_same_name a b = bytes_eq (map to_ascii_lowercase a) (map to_ascii_lowercase b)
 

@@ -7,7 +7,7 @@ use Rattle.std.specs.List.{list_all}
 abbrev pub is_blank_byte : ℕ → Bool
 is_blank_byte b = (b == 32) || (b == 9)
 
--- a separator of stanzas: an empty line, or spaces and tabs alone (Debian Policy 5.1)
+-- a separator of stanzas: an empty line, or only spaces and tabs (Debian Policy 5.1)
 abbrev pub is_separator : List ℕ → Bool
 is_separator line = list_all is_blank_byte line
 

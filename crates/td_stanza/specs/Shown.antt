@@ -2,6 +2,6 @@
 use Rattle.td_stanza.specs.declared.entry.Field.{Field}
 use Rattle.td_stanza.specs.Field.{Entry}
 
--- its name and its value
+-- the name and the value of a field
 abbrev pub shown : Field → Entry
 shown field = record { name = field.name.now; value = field.value.now }

@@ -23,7 +23,7 @@ abbrev pub ends_apart : Bool → List (List ℕ) → Bool
 ends_apart apart [] = apart
 ends_apart apart (line ∷ lines) = ends_apart (is_separator line) lines
 
--- lines without a fault: those of whole stanzas, a separator behind them, and then those of the
+-- lines without a fault: those of whole stanzas, a separator after them, and then those of the
 -- fields, if any, of a stanza that may go on
 pub record IsBefore (fields : List Entry) (lines : List (List ℕ)) : Type 0 where
   pub stanzas : List (List Entry)

@@ -33,7 +33,7 @@ pub record IsStanza (stanza : List Entry) (lines : List (List ℕ)) : Type 0 whe
   pub fields : AreFields stanza lines
   pub distinct : IsDistinct stanza
 
--- separators alone
+-- only separators
 abbrev pub AllSeparate : List (List ℕ) → Type 0
 AllSeparate lines = AllByRecursion (λ line. IsTrue (is_separator line)) lines
 

@@ -6,7 +6,7 @@ ghost use Rattle.std.specs.Hash as fed;
 use crate::name::is_same_name;
 use std::hash::{Hash, Hasher};
 
-/// A name that is equal to each that differs in the case of ASCII letters alone.
+/// A name that is equal to each that differs only in the case of ASCII letters.
 #[derive(Clone, Copy)]
 pub struct FoldedName<'a> {
     pub name: &'a str,

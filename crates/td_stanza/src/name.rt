@@ -9,7 +9,7 @@ ghost use Rattle.td_stanza.specs.Field.{is_same_name as is_same_name_of};
 
 use td_text::part_at;
 
-/// 1 at each byte that a field's name may have, and else 0: one look in the place of up to four
+/// 1 at each byte that a field's name may have, and else 0: one look instead of up to four
 /// comparisons.
 const NAME_BYTES: [u8; 256] = [
     0, 0, 0, 0, 0, 0, 0, 0, 0, 0, 0, 0, 0, 0, 0, 0, 0, 0, 0, 0, 0, 0, 0, 0, 0, 0, 0, 0, 0, 0, 0, 0,

@@ -21,14 +21,14 @@ fn has_name(fields: &[Field<'_>], name: &str) -> bool
     fields.iter().any(|field| is_same_name(name, field.name))
 }
 
-/// The names of a stanza's fields behind the first 32. They take no memory before there is one.
+/// The names of a stanza's fields after the first 32. They take no memory before there is one.
 #[derive(Drop)]
 pub struct Names<'a> {
     further: HashSet<FoldedName<'a>>,
 }
 
 impl<'a> Names<'a> {
-    /// Of a stanza without fields.
+    /// The names of a stanza without fields.
     pub fn new(alloc: Global) -> Names<'a>
         ensures { AreNoted result [] }
     {
@@ -48,7 +48,7 @@ impl<'a> Names<'a> {
         has_name(fields.split_at(COMPARED).0, name) || self.further.contains(&FoldedName { name })
     }
 
-    /// Keeps the name of the field that is read behind some others, if it is to be looked up.
+    /// Keeps the name of the field that is read after some others, if it is to be looked up.
     pub fn note(&mut self, others: &[Field<'_>], name: &'a str) -> Result<(), AllocError>
         requires noted { AreNoted self.old others.now }
         ensures noted { OnOk result ((field : FieldOf) → field.name.now ≡ name.now →

@@ -1,4 +1,4 @@
--- Of what the desk has done at the board each beginning was all that it had done at some moment.
+-- Each beginning of what the desk has done at the board was all that it had done at some moment.
 use Rattle.std.proofs.Common.{◌≡◌, ◌⊎◌, ℕ, suc, ◌-◌, ◌<◌, ◌≤◌, List, [], ◌∷◌, ◌++◌, length, set}
 use Rattle.std.proofs.Common.{ap, refl, sym, subst, ◌∙◌, inl, inr, ⊎_elim, arith, append-nil}
 use Rattle.std.proofs.Common.{length-set, length-append}

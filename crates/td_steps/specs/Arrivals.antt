@@ -14,12 +14,12 @@ use Rattle.td_steps.specs.Runs.{LeadsOn}
 use Rattle.td_steps.specs.Parts.{offering, Tells}
 use Rattle.td_steps.specs.Tries.{AreMade}
 
--- an arrival is the step itself; a refused one is none
+-- what an arrival that is answered so has made: only the step itself; a refused one makes none
 abbrev pub ArriveMoves : Key → BookModel → Result ℕ ArriveRefusal → List Move → Type 0
 ArriveMoves k old (Ok n) moves = (moves ≡ arrive k ∷ []) × Tells (resting old) moves (Entry n)
 ArriveMoves k old (Err r) moves = moves ≡ []
 
--- whatever a book does of an arrival is such a list of moves
+-- whatever a book does of an arrival is a list of moves as `ArriveMoves` says
 abbrev pub ArrivalsAreSteps : Type 0
 ArrivalsAreSteps =
     (w : WorldView) (k : Key) (old new : BookModel) (result : Result ℕ ArriveRefusal) →
@@ -32,13 +32,14 @@ abbrev pub sweep_moves : BookModel → List Move
 sweep_moves old =
     sweep ∷ offering (rows_of (sweeping (resting old) (freed_now old)).history) (freed_now old)
 
--- it tells the number of its entry, or that nothing is freed; for want of memory there is no move
+-- what a sweep that is answered so has made: one of its moves is answered with the number of its
+-- entry, or that nothing is freed; if memory runs out there is no move
 abbrev pub SweepMoves : BookModel → Result (Option ℕ) AllocError → List Move → Type 0
 SweepMoves old (Ok (Some n)) moves = (moves ≡ sweep_moves old) × Tells (resting old) moves (Entry n)
 SweepMoves old (Ok None) moves = (moves ≡ sweep_moves old) × Tells (resting old) moves Nothing
 SweepMoves old (Err e) moves = moves ≡ []
 
--- and so is what it does of a sweep
+-- whatever a book does of a sweep is a list of moves as `SweepMoves` says
 abbrev pub SweepsAreSteps : Type 0
 SweepsAreSteps = (w : WorldView) (old new : BookModel) (result : Result (Option ℕ) AllocError) →
     Sees w (resting old) → SweepOutcome old new result

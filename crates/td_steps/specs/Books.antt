@@ -36,8 +36,8 @@ use Rattle.td_book.specs.WatchCalls.{WatchOutcome}
 use Rattle.td_steps.specs.Commands.{off_in}
 use Rattle.td_steps.specs.Openings.{begun}
 
--- a call with what it was given and what it answered; of a finish, what the builder's seat was
--- before and behind it
+-- a call with what it was given and what it answered; a finish has what the builder's seat was
+-- before and after it
 pub data Call : Type 0 where
   command : CommandParts → Result Taken CommandRefusal → Call
   undo : ℕ → Result (Unit {0}) UndoRefusal → Call
@@ -47,12 +47,12 @@ pub data Call : Type 0 where
   sweep : Result (Option ℕ) AllocError → Call
   watch : ℕ → List (Key × ℕ) → Result (Unit {0}) WatchRefusal → Call
 
--- whether it is a watch
+-- whether a call is a watch
 abbrev pub is_watch : Call → Bool
 is_watch (watch groups given result) = true
 is_watch call = false
 
--- what its contract says of the book before and behind it
+-- what the call's contract says of the book before and after it
 abbrev pub Does : Call → BookModel → BookModel → Type 0
 Does (command c result) old new = IsDone c old new result
 Does (undo n result) old new = UndoAnswer (undo_stop old.history.journal n) n old new result
@@ -63,7 +63,7 @@ Does (arrive k result) old new = ArriveOutcome k old new result
 Does (sweep result) old new = SweepOutcome old new result
 Does (watch groups given result) old new = WatchOutcome groups given old new result
 
--- so it is of each of the calls, one after the other
+-- the contract of each of the calls holds, one after the other
 abbrev pub DoAll : List Call → BookModel → BookModel → Type 0
 DoAll [] old new = new ≡ old
 DoAll (c ∷ calls) old new = (between : BookModel) × Does c old between × DoAll calls between new
@@ -80,11 +80,11 @@ pub record Follows (old new : BookModel) : Type 0 where
   pub added : List Entry
   pub entries : entries_in new ≡ entries_in old ++ added
 
--- so it is over any list of calls
+-- over any list of calls the entries stay, and what no call changes, as `Follows` says
 abbrev pub EntriesStay : Type 0
 EntriesStay = (calls : List Call) (old new : BookModel) → DoAll calls old new → Follows old new
 
--- and without a watch among them the watched rows stay the same ones
+-- over any list of calls without a watch the watched rows stay the same ones
 abbrev pub WatchedStay : Type 0
 WatchedStay =
     (calls : List Call) (old new : BookModel) → list_any is_watch calls ≡ false
@@ -98,15 +98,16 @@ RowsAreReplayed =
     → DoAll calls (begun (opened t) fixed) new
     → rows_of new.history ≡ replay t (standing new.history.journal)
 
--- and each of the standing entries applies on the rows that those before it left
+-- whatever calls were made since the opening over rows in order: each of the standing entries
+-- applies on the rows that those before it left
 abbrev pub EntriesAreLawful : Type 0
 EntriesAreLawful =
     (t : Table) (fixed : Fixed) (calls : List Call) (new : BookModel) → ascending (keys_of t) ≡ true
     → DoAll calls (begun (opened t) fixed) new
     → Lawful new.history.opening (standing new.history.journal)
 
--- the command's entry stood behind the claims of builders that it had found, and now every row is
--- as it was before the command, but for these claims
+-- the command's entry came after the claims of builders that it had found, and now every row is as
+-- it was before the command, except for these claims
 pub record IsBack (c : CommandParts) (old between new : BookModel) : Type 0 where
   pub choices : List ℕ
   pub chosen : Choices old.fixed.builders (off_in c old) choices
@@ -131,16 +132,16 @@ BlockedExactly =
     → CanBeUndone old.history.journal n → blocker old.history.journal n ≡ Some m
     → Does (undo n result) old new → (result ≡ Err (Blocked m)) × (new ≡ old)
 
--- one that no later entry blocks is undone, but for want of memory, or a builder's claim that was
--- faster
+-- the undo of a standing command that no later entry blocks is made, unless memory runs out, or a
+-- builder's claim was faster
 abbrev pub UndoneElse : Type 0
 UndoneElse =
     (n : ℕ) (old new : BookModel) (result : Result (Unit {0}) UndoRefusal)
     → CanBeUndone old.history.journal n → blocker old.history.journal n ≡ None
     → Does (undo n result) old new → UndoOutcome n old new result
 
--- one that the journal doesn't refuse, but a builder's claim stops: in the journal behind it the
--- number that is told is the blocker's, that of the latest standing entry which touches what the
+-- an undo that the journal doesn't refuse, but a builder's claim stops: in the journal after it the
+-- number in the refusal is the blocker's, that of the latest standing entry which touches what the
 -- undo would have given back
 abbrev pub WonNamesTheLatest : Type 0
 WonNamesTheLatest = (n m : ℕ) (old new : BookModel) → undo_stop old.history.journal n ≡ None

@@ -34,7 +34,7 @@ abbrev pub notice_moves : Key → ℕ → History → List Move
 notice_moves k by h =
     withdrawing h (k ∷ []) (by ∷ []) ++ offering (rows_of (noting_one h k by)) (k ∷ [])
 
--- so it is of the row with this number
+-- the moves by which the claim of the row with this number is noted
 pub record Notices (i : ℕ) (old : BookModel) (moves : List Move) : Type 0 where
   pub key : Key
   pub at : IsKeyOf old i key
@@ -42,13 +42,13 @@ pub record Notices (i : ℕ) (old : BookModel) (moves : List Move) : Type 0 wher
   pub some_builder : by ≤ old.fixed.builders
   pub moves_are : moves ≡ notice_moves key by old.history
 
--- what a start has made that is answered so: with no row in hand, and for want of memory, no move
+-- what a start that is answered so has made: with no row in hand, or if memory runs out, no move
 abbrev pub StartMoves : Hand → BookModel → Result Job StartRefusal → List Move → Type 0
 StartMoves (Holding i) old (Ok job) moves = Notices i old moves
 StartMoves (Holding i) old (Err Mismatch) moves = Notices i old moves
 StartMoves hand old result moves = moves ≡ []
 
--- whatever a book does of a start is such a list of moves
+-- whatever a book does of a start is a list of moves as `StartMoves` says
 abbrev pub StartsAreSteps : Type 0
 StartsAreSteps =
     (w : WorldView) (b : ℕ) (hand : Hand) (old new : BookModel) (result : Result Job StartRefusal) →
@@ -68,7 +68,7 @@ settle_moves k b o h =
 abbrev pub finish_moves : Key → ℕ → ℕ → Outcome → History → List Move
 finish_moves k by b o h = notice_moves k by h ++ settle_moves k b o (noting_one h k by)
 
--- so it is of the row with this number
+-- the moves by which the claim of the row with this number is noted and its build settled
 pub record Ends (i b : ℕ) (o : Outcome) (old : BookModel) (moves : List Move) : Type 0 where
   pub key : Key
   pub at : IsKeyOf old i key
@@ -82,8 +82,8 @@ pub record SettlesAt (i b : ℕ) (o : Outcome) (old : BookModel) (moves : List M
   pub at : IsKeyOf old i key
   pub moves_are : moves ≡ settle_moves key b o old.history
 
--- what a finish has made that is answered so; the builder's own step comes among those of builders,
--- before the build is settled. With nothing in hand, for want of memory, and where the build ended
+-- what a finish that is answered so has made; the builder's own step comes among those of builders,
+-- before the build is settled. With nothing in hand, if memory runs out, or if the build ended
 -- otherwise, no move
 abbrev pub FinishMoves : Hand → ℕ → Outcome → BookModel → Result ℕ FinishRefusal → List Move
     → Type 0
@@ -94,7 +94,8 @@ FinishMoves (Finished i c) b o old (Ok n) moves =
     SettlesAt i b o old moves × Tells (resting old) moves (Entry n)
 FinishMoves hand b o old result moves = moves ≡ []
 
--- whatever a book does of a finish, in each of its branches, is such a list of moves
+-- whatever a book does of a finish, in each of its branches, is a list of moves as `FinishMoves`
+-- says
 abbrev pub FinishesAreSteps : Type 0
 FinishesAreSteps =
     (w : WorldView) (hand : Hand) (o : Outcome) (before behind : BuilderView) (old new : BookModel)

@@ -34,8 +34,8 @@ MovesOf (sweep result) old moves = SweepMoves old result moves
 MovesOf (watch groups given result) old moves = WatchMoves moves
 
 -- each call is a list of moves, and these are what the desk did for it at the board; from every
--- world to which a run of them leads the calls behind it are so, and the book sees the world at the
--- end
+-- world to which a run of them leads the later calls are such lists too, and the book sees the
+-- world at the end
 abbrev pub CallsLead : WorldView → List Call → BookModel → BookModel → Type 0
 CallsLead w [] old new = Sees w (resting new)
 CallsLead w (c ∷ calls) old new =
@@ -43,13 +43,14 @@ CallsLead w (c ∷ calls) old new =
     × AreMade old between moves × ((v : WorldView) → Runs w moves v
     → Goes w (resting old) moves v × Sees v (resting between) × CallsLead v calls between new)
 
--- so it is of any list of calls, from any world that the book sees
+-- any list of calls is lists of moves as `CallsLead` says, from any world that the book sees
 abbrev pub CallsAreSteps : Type 0
 CallsAreSteps =
     (w : WorldView) (calls : List Call) (old new : BookModel) → Sees w (resting old)
     → DoAll calls old new → CallsLead w calls old new
 
--- and since the opening: from the world at the opening, the offers and then the moves of the calls
+-- the calls since the opening are lists of moves, from every world to which the offers lead from
+-- the world at the opening
 abbrev pub BooksAreSteps : Type 0
 BooksAreSteps =
     (t : Table) (fixed : Fixed) (calls : List Call) (new : BookModel) → ascending (keys_of t) ≡ true

@@ -34,7 +34,8 @@ WorldsDecide =
     (w : WorldView) (old : BookModel) (off : List Key) → Sees w (resting old)
     → (choices : List ℕ) × Choices old.fixed.builders off choices × Decided w off choices
 
--- and from it, with its choices, a command's moves run one after the other
+-- from a world that a book sees, with the world's choices, a command's moves run one after the
+-- other
 abbrev pub DecidedCommandsRun : Type 0
 DecidedCommandsRun = (w : WorldView) (c : CommandParts) (old : BookModel) (choices : List ℕ) →
     Sees w (resting old) → length choices ≡ length (off_in c old) → Decided w (off_in c old) choices

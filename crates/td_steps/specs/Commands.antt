@@ -35,14 +35,14 @@ entering_moves kind named matched h choices =
 abbrev pub off_in : CommandParts → BookModel → List Key
 off_in c b = off_for (kind_of c) (named_by c b)
 
--- its moves there, by who was faster at each of them
+-- the moves of a command in a book, by who was faster at each of the rows that it may withdraw
 abbrev pub command_moves : CommandParts → BookModel → List ℕ → List Move
 command_moves c b choices =
     entering_moves (kind_of c) (named_by c b)
     (filter (is_matched_in c b) (named_by c b)) b.history choices
 
--- what a command that is answered so may have made: for want of memory no move; else these, with
--- some choices, and the entry's number is told
+-- what a command that is answered so may have made: if memory runs out no move; else its moves with
+-- some choices, one of which is answered with the number of its entry, if it made one
 abbrev pub CommandMoves : CommandParts → BookModel → Result Taken CommandRefusal → List Move
     → Type 0
 CommandMoves c old (Ok taken) moves =
@@ -53,8 +53,8 @@ CommandMoves c old (Err (NothingApplies skips)) moves =
     × (moves ≡ command_moves c old choices)
 CommandMoves c old (Err NoMemory) moves = moves ≡ []
 
--- whatever a book does of a command is such a list of moves, from any world that the book sees to
--- one that it sees afterwards
+-- whatever a book does of a command is a list of moves as `CommandMoves` says, from any world that
+-- the book sees to one that it sees afterwards
 abbrev pub CommandsAreSteps : Type 0
 CommandsAreSteps =
     (w : WorldView) (c : CommandParts) (old new : BookModel)

@@ -12,14 +12,14 @@ use Rattle.td_book.specs.AtRest.{IsAtRest}
 use Rattle.td_book.specs.Deeds.{IsInside, deeds_of}
 use Rattle.td_book.specs.Desk.{BookModel}
 
--- a builder's own list is that of the journal, but for its last deed at most
+-- a builder's own list is the journal's, or has one more deed at its end
 abbrev pub AreOwn : List Deed → List Deed → Type 0
 AreOwn mine told = (mine ≡ told) ⊎ ((last : Deed) × (mine ≡ told ++ last ∷ []))
 
--- at every moment of every schedule of a board: where the desk's lists are those of a journal
--- behind its first entries, as every book keeps them (the invariant of its inside), the claims and
--- outcomes of each builder there are its own, in order, none invented, dropped or changed; only
--- the builder's last deed may not have come there yet
+-- at every moment of every schedule of a board: if the desk's lists are those of a journal after
+-- its first entries, as every book keeps them (the invariant of its inside), the claims and
+-- outcomes of each builder there are its own, in order, none invented, dropped or changed; only the
+-- builder's last deed may not have come there yet
 abbrev pub JournalsTellDeeds : Type 0
 JournalsTellDeeds = (rows : ℕ) (m : Moment) → Reached rows m
     → (d : DeskView) → DeskKnows m d
@@ -32,7 +32,9 @@ abbrev pub told_of : ℕ → BookModel → List Deed
 told_of b book =
     deeds_of b (keys_of book.history.opening) (drop book.fixed.since book.history.journal)
 
--- so it is of every book at rest: of its seat `Book::seat` ensures this
+-- at every moment of every schedule of a board: what the journal of a book at rest says of each
+-- builder is that builder's own, except the last deed at most; `Book::seat` ensures of its seat
+-- what this asks
 abbrev pub BooksTellDeeds : Type 0
 BooksTellDeeds = (rows : ℕ) (m : Moment) → Reached rows m
     → (seat : DeskModel) → DeskKnows m seat.desk

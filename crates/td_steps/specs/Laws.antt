@@ -8,12 +8,12 @@ use Rattle.td_steps.specs.Sees.{Desk, Sees}
 use Rattle.td_steps.specs.Moves.{Move, step_of, answer_of, moved, May, Chosen}
 use Rattle.td_steps.specs.Runs.{is_builders, MayAll, moved_all, LeadsOn}
 
--- the move's step is answered as told of the move, and the desk sees the world after it
+-- the move's step is answered as `answer_of` says, and the desk sees the world after it
 pub record IsStep (w : WorldView) (d : Desk) (m : Move) : Type 0 where
   pub answers : answer_to w (step_of m) ≡ answer_of d m
   pub sees : Sees (after w (step_of m)) (moved d m)
 
--- so it is of each move that the desk may make, where builders decided as it says
+-- each move that the desk may make is a step as `IsStep` says, if builders decided as the move says
 abbrev pub MovesAreSteps : Type 0
 MovesAreSteps =
     (w : WorldView) (d : Desk) (m : Move) → Sees w d → May d m → Chosen w m → IsStep w d m
@@ -24,8 +24,8 @@ BuildersChangeNothing =
     (w : WorldView) (d : Desk) (step : Step) → is_builders step ≡ true → Sees w d
     → Sees (after w step) d
 
--- each of the moves, with whatever steps of builders between them, is answered as told of it, and
--- the desk sees the world at the end
+-- each of the moves, with whatever steps of builders between them, is answered as `answer_of` says,
+-- and the desk sees the world at the end
 abbrev pub RunsAreSeen : Type 0
 RunsAreSeen =
     (w : WorldView) (d : Desk) (moves : List Move) → Sees w d → MayAll d moves

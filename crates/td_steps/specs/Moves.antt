@@ -58,13 +58,13 @@ freed_by d = freed (supply_now d.stock d.history) (rows_of d.history)
 abbrev pub next_no : Desk → ℕ
 next_no d = length d.history.journal + 1
 
--- what a sweep of these keys is told
+-- the answer to a sweep of these keys
 abbrev pub swept_as : Desk → List Key → Answer
 swept_as d [] = answers.Nothing
 swept_as d (k ∷ keys) = answers.Entry (next_no d)
 
--- what a move is told: a withdrawal that is lost is refused, since the row isn't on offer any more,
--- and nothing else is; of an entry its number
+-- the answer to a move: a withdrawal that is lost is refused, since the row isn't on offer any
+-- more, and nothing else is; an entry is answered with its number
 abbrev pub answer_of : Desk → Move → Answer
 answer_of d (offer k) = answers.Done
 answer_of d (won k) = answers.Done

@@ -19,7 +19,7 @@ use Rattle.td_steps.specs.Runs.{LeadsOn}
 use Rattle.td_steps.specs.Parts.{offering}
 use Rattle.td_steps.specs.Tries.{tried_in, done_in}
 
--- the desk before that, at a new board
+-- the desk before its first offers, at a new board
 abbrev pub first_desk : Table → Stock → ℕ → Desk
 first_desk t stock builders =
     record {
@@ -33,8 +33,8 @@ first_desk t stock builders =
 abbrev pub begun : History → Fixed → BookModel
 begun h fixed = record { history = h; fixed = fixed; tries = first_offers h }
 
--- it sees the world at its opening, in which no row is built, and offers each row that needs a
--- build; then the book is at rest
+-- the desk sees the world at its opening, in which no row is built, and offers each row that needs
+-- a build; then the book is at rest
 pub record OpensSo (t : Table) (fixed : Fixed) : Type 0 where
   pub sees : Sees (world_of t fixed.stock fixed.builders) (first_desk t fixed.stock fixed.builders)
   pub leads : LeadsOn (world_of t fixed.stock fixed.builders)
@@ -66,16 +66,16 @@ desk_from h stock builders =
       builders = builders;
     }
 
--- such a history: the opening rows rise, the standing entries are lawful over them, each entry has
--- keys, and no builder has a row
+-- a history that a world may open with: the opening rows rise, the standing entries are lawful over
+-- them, each entry has keys, and no builder has a row
 pub record MayOpen (h : History) : Type 0 where
   pub rising : ascending (keys_of h.opening) ≡ true
   pub lawful : Lawful h.opening (standing h.journal)
   pub keys : EachHasKeys h.journal
   pub idle : NoneBuilt (rows_of h)
 
--- the desk sees that world, which is sound, and offers each row that needs a build, which is all
--- that it has done at the board then; and the book is at rest
+-- the desk sees the world that opens with the history, which is sound, and offers each row that
+-- needs a build, which is all that it has done at the board then; and the book is at rest
 pub record OpensWith (h : History) (fixed : Fixed) : Type 0 where
   pub sees : Sees (world_from h fixed.stock fixed.builders) (desk_from h fixed.stock fixed.builders)
   pub leads : LeadsOn (world_from h fixed.stock fixed.builders)
@@ -84,6 +84,6 @@ pub record OpensWith (h : History) (fixed : Fixed) : Type 0 where
   pub made : done_in (begun h fixed).tries
       ≡ tried_in h.opening (offering (rows_of h) (keys_of (rows_of h)))
 
--- every such history opens so; that before the first entry is one of them
+-- every history that a world may open with opens so; the one before the first entry is among them
 abbrev pub HistoriesOpen : Type 0
 HistoriesOpen = (h : History) (fixed : Fixed) → MayOpen h → OpensWith h fixed

@@ -18,7 +18,8 @@ withdrawing_one h k b =
     if is_queued_at (rows_of h) k
     then (if is_lost b then lost k b ∷ note k b ∷ [] else won k ∷ []) else []
 
--- so it is of each key in order; who was faster at each is chosen by the list
+-- the rows of the keys that need a build are withdrawn, in order; the list says which builder was
+-- faster at each, and 0 that none was
 abbrev pub withdrawing : History → List Key → List ℕ → List Move
 withdrawing h [] bs = []
 withdrawing h (k ∷ ks) [] = []
@@ -28,7 +29,7 @@ withdrawing h (k ∷ ks) (b ∷ bs) = withdrawing_one h k b ++ withdrawing (noti
 abbrev pub winning_one : Table → Key → List Move
 winning_one t k = if is_queued_at t k then won k ∷ [] else []
 
--- so it is of each key in order
+-- the rows of the keys that need a build are withdrawn, in order, and no builder was faster
 abbrev pub winning : Table → List Key → List Move
 winning t [] = []
 winning t (k ∷ ks) = winning_one t k ++ winning t ks
@@ -37,7 +38,7 @@ winning t (k ∷ ks) = winning_one t k ++ winning t ks
 abbrev pub offering_one : Table → Key → List Move
 offering_one t k = if is_queued_at t k then offer k ∷ [] else []
 
--- so is that of each key in order
+-- the rows of the keys that need a build are offered, in order
 abbrev pub offering : Table → List Key → List Move
 offering t [] = []
 offering t (k ∷ ks) = offering_one t k ++ offering t ks
@@ -47,7 +48,7 @@ abbrev pub committing : Kind → List Key → List Move
 committing kind [] = []
 committing kind (k ∷ ks) = commit kind (k ∷ ks) ∷ []
 
--- one of the moves is told this
+-- one of the moves has this answer
 pub record Tells (d : Desk) (moves : List Move) (a : Answer) : Type 0 where
   pub before : List Move
   pub move : Move

@@ -23,10 +23,10 @@ Reopened opening book =
     (text : List ℕ) × (table : TableId) × (stock : Stock) × (builders : ℕ)
     × IsReopened opening text table stock builders book
 
--- such a book opens with its history. The world begins with the history that the reopening leaves,
--- the entries by which builds are given back among it: these are no steps of it. A world before
--- them needn't be: a journal may leave two rows with one builder, of whom a world says that it has
--- one in hand, or one with a builder whom the new board hasn't. Where there is one that a book
+-- a reopened book opens with its history. The world begins with the history that the reopening
+-- leaves, the entries by which builds are given back among it: these are no steps of it. A world
+-- before them needn't be: a journal may leave two rows with one builder, of whom a world says that
+-- it has one in hand, or one with a builder whom the new board hasn't. If there is one that a book
 -- sees, whose builder still holds the row, the entry is that of a finish (`FinishesRun` in
 -- `Builds`, with GivenBack)
 abbrev pub ReopeningsAreSteps : Type 0
@@ -34,7 +34,8 @@ ReopeningsAreSteps =
     (opening : Table) (book : BookModel) → ascending (keys_of opening) ≡ true
     → Reopened opening book → OpensWith book.history book.fixed
 
--- and its calls are steps: from that world, the offers and then the moves of the calls
+-- the calls of a reopened book are steps from the world that begins with its history: the offers
+-- and then the moves of the calls
 abbrev pub ReopenedBooksAreSteps : Type 0
 ReopenedBooksAreSteps =
     (opening : Table) (book new : BookModel) (calls : List Call)
@@ -50,8 +51,8 @@ pub record AreReplayed (opening : Table) (book : BookModel) : Type 0 where
   pub rows : rows_of book.history ≡ replay opening (standing book.history.journal)
   pub lawful : Lawful opening (standing book.history.journal)
 
--- so it is after whatever calls since the reopening: the entries of the text count with those that
--- came later
+-- after whatever calls since the reopening a book is replayed over the opening rows: the entries of
+-- the text count with those that came later
 abbrev pub ReopenedAreReplayed : Type 0
 ReopenedAreReplayed = (opening : Table) (book new : BookModel) (calls : List Call)
     → ascending (keys_of opening) ≡ true → Reopened opening book → DoAll calls book new

@@ -12,7 +12,7 @@ abbrev pub MayAll : Desk → List Move → Type 0
 MayAll d [] = Unit {0}
 MayAll d (m ∷ ms) = May d m × MayAll (moved d m) ms
 
--- what it knows after all of them
+-- what the desk knows after all of the moves
 abbrev pub moved_all : Desk → List Move → Desk
 moved_all d [] = d
 moved_all d (m ∷ ms) = moved_all (moved d m) ms
@@ -24,7 +24,7 @@ is_builders (Finish b o) = true
 is_builders (Release b) = true
 is_builders s = false
 
--- whether all of them are
+-- whether all of the steps are builders'
 abbrev pub are_builders : List Step → Bool
 are_builders [] = true
 are_builders (s ∷ ss) = is_builders s && are_builders ss
@@ -41,14 +41,15 @@ abbrev pub Runs : WorldView → List Move → WorldView → Type 0
 Runs w [] v = Meanwhile w v
 Runs w (m ∷ ms) v = (u : WorldView) × Meanwhile w u × Chosen u m × Runs (after u (step_of m)) ms v
 
--- the same, and each move's step is answered as told of it
+-- the desk makes the moves in order, with any steps of builders before, between and after them, and
+-- each move's step is answered as `answer_of` says
 abbrev pub Goes : WorldView → Desk → List Move → WorldView → Type 0
 Goes w d [] v = Meanwhile w v
 Goes w d (m ∷ ms) v =
     (u : WorldView) × Meanwhile w u × (answer_to u (step_of m) ≡ answer_of d m)
     × Goes (after u (step_of m)) (moved d m) ms v
 
--- the desk that sees the first world: every run of the moves from there is answered as told, and
+-- every run of the moves from the world is answered as `answer_of` says of the first desk, and
 -- leads to a world that the other desk sees
 abbrev pub LeadsOn : WorldView → Desk → List Move → Desk → Type 0
 LeadsOn w d ms to = (v : WorldView) → Runs w ms v → Goes w d ms v × Sees v to

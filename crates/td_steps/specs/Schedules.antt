@@ -64,12 +64,12 @@ AreCalls (c ∷ calls) old new moves =
     × AreMade old between first × (rest : List Move) × AreCalls calls between new rest
     × (moves ≡ first ++ rest)
 
--- At every moment of every schedule of a board: where the desk's seat is a book's at rest, after
--- any calls since the book began with a history, there is a run of the world that begins with it.
--- Its moves are the first offers and then those of the calls, the ones that the desk made at the
--- board; the builders' steps between them are those that these took at the board; each move is
--- answered as told of it; and the run leads to a world with the book's history that is as the board
--- is. No choice of moves is free, and that there be a run is no premise
+-- At every moment of every schedule of a board: if the desk's seat is a book's at rest, after any
+-- calls since the book began with a history, there is a run of the world that begins with it. Its
+-- moves are the first offers and then those of the calls, the ones that the desk made at the board;
+-- the builders' steps between them are those that these took at the board; each move is answered as
+-- `answer_of` says; and the run leads to a world with the book's history that is as the board is.
+-- No choice of moves is free, and that there be a run is no premise
 abbrev pub SchedulesRun : Type 0
 SchedulesRun =
     (rows : ℕ) (m : Moment) → Reached rows m → (seat : DeskModel) → DeskKnows m seat.desk

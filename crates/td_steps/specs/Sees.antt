@@ -23,7 +23,7 @@ pub record Desk : Type 0 where
   pub view : List RowView
   pub builders : ℕ
 
--- of the book at rest: the seat knows what follows from its rows
+-- the desk of a book at rest: the seat knows what follows from its rows
 abbrev pub resting : BookModel → Desk
 resting b =
     record {
@@ -37,11 +37,11 @@ resting b =
 abbrev pub view_of : Desk → Key → Option RowView
 view_of d k = slice_get d.view (number_of d.history.opening k)
 
--- the same desk, whose seat knows this of the key's row
+-- the desk with this as what its seat knows of the key's row
 abbrev pub with_view : Desk → Key → RowView → Desk
 with_view d k v = record d { view = set d.view (number_of d.history.opening k) v }
 
--- the same desk, with one more entry in its journal
+-- the desk with one more entry in its journal
 abbrev pub entering : Desk → Kind → List Key → Desk
 entering d kind keys =
     record d { history = with_entry d.history (record { kind = kind; keys = keys }) }

@@ -29,7 +29,7 @@ is_by b (Finish c o) = b == c
 is_by b (Release c) = b == c
 is_by b s = false
 
--- those of the steps that are this builder's, in order
+-- the steps that are this builder's, in order
 abbrev pub steps_by : ℕ → List Step → List Step
 steps_by b ss = filter (is_by b) ss
 

@@ -11,7 +11,8 @@ use Rattle.td_book.specs.Desk.{BookModel}
 use Rattle.td_steps.specs.Moves.{Move, offer, won, lost, note, commit, undo, settle, arrive, sweep}
 
 -- what a move is at the board, by the numbers of the rows in a table: the step of that name, of
--- which the board knows how a build ended without its text; what an entry alone is, is nothing
+-- which the board knows how a build ended without its text; a move that is only an entry is nothing
+-- there
 abbrev pub tries_of : Table → Move → List DeskTry
 tries_of t (offer k) = Offered (number_of t k) ∷ []
 tries_of t (won k) = WithdrawalWon (number_of t k) ∷ []

@@ -32,7 +32,7 @@ RunsWith turn w (m ∷ ms) v =
 abbrev pub AreTurns : (ℕ → List Step) → Type 0
 AreTurns turn = (i : ℕ) → are_builders (turn i) ≡ true
 
--- such runs are runs
+-- a run with turns of builders' steps is a run
 abbrev pub TurnsRun : Type 0
 TurnsRun =
     (w v : WorldView) (turn : ℕ → List Step) (moves : List Move) → AreTurns turn
@@ -47,7 +47,7 @@ CommandsGoOn =
     (choices : List ℕ) × Choices old.fixed.builders (off_in c old) choices × (v : WorldView)
     × RunsWith turn w (command_moves c old choices) v
 
--- and so do those of a start, on any key
+-- whatever builders do in each turn, the moves of a start on any key go on to the end
 abbrev pub StartsGoOn : Type 0
 StartsGoOn =
     (w : WorldView) (turn : ℕ → List Step) (k : Key) (old : BookModel) → AreTurns turn

@@ -43,8 +43,8 @@ pub record LostAt (off : List Key) (old : BookModel) (moves : List Move) : Type 
   pub named : off ≡ first ++ key ∷ rest
   pub moves_are : moves ≡ blocked_moves first key by old.history
 
--- what an undo that is answered so has made. What the journal decides alone makes no move, and so
--- does want of memory; else it is undone, or stopped by the entry of a claim
+-- what an undo that is answered so has made. What only the journal decides makes no move, and
+-- neither does one for which memory runs out; else it is undone, or stopped by the entry of a claim
 abbrev pub UndoMoves : Option UndoRefusal → ℕ → BookModel → Result (Unit {0}) UndoRefusal
     → List Move → Type 0
 UndoMoves None n old (Ok u) moves =
@@ -57,8 +57,8 @@ UndoMoves None n old (Err (Blocked b)) moves =
     × Tells (resting old) moves (Entry b)
 UndoMoves stop n old result moves = moves ≡ []
 
--- whatever a book does of an undo is such a list of moves, from any world that the book sees to one
--- that it sees afterwards
+-- whatever a book does of an undo is a list of moves as `UndoMoves` says, from any world that the
+-- book sees to one that it sees afterwards
 abbrev pub UndosAreSteps : Type 0
 UndosAreSteps =
     (w : WorldView) (n : ℕ) (old new : BookModel) (result : Result (Unit {0}) UndoRefusal) →

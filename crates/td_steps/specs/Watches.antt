@@ -21,32 +21,33 @@ pub record IsAside (old new : BookModel)
   pub seat : (seat : DeskModel) → IsAtRest seat old → IsAtRest seat new
   pub refused : OnErr result (new ≡ old)
 
--- so it is of every watch, whatever it answers
+-- every watch, whatever it answers, leaves the history and the seat, and a refused one the former
+-- watch
 abbrev pub WatchesStayAside : Type 0
 WatchesStayAside =
     (groups : ℕ) (given : List (Key × ℕ)) (old new : BookModel)
     (result : Result (Unit {0}) WatchRefusal) → WatchOutcome groups given old new result
     → IsAside old new result
 
--- a watch that nothing stops is refused for want of memory alone, and one that something stops is
--- refused for it, unless memory is wanting before that is told
+-- a watch that nothing stops is refused only if memory runs out, and one that something stops is
+-- refused for it, unless memory runs out before
 pub record IsForItsReason (stop : Option WatchRefusal)
     (result : Result (Unit {0}) WatchRefusal) : Type 0 where
   pub free : stop ≡ None → IfErr result (λ r. r ≡ NoMemory)
   pub stopped : (r : WatchRefusal) → stop ≡ Some r → (result ≡ Err r) ⊎ (result ≡ Err NoMemory)
 
--- so it is of every watch
+-- every watch is refused for its own reason, or because memory runs out
 abbrev pub WatchesAreRefusedForReasons : Type 0
 WatchesAreRefusedForReasons =
     (groups : ℕ) (given : List (Key × ℕ)) (old new : BookModel)
     (result : Result (Unit {0}) WatchRefusal) → WatchOutcome groups given old new result
     → IsForItsReason (watch_stop (rows_of old.history) groups given) result
 
--- it makes no move
+-- a watch makes no move
 abbrev pub WatchMoves : List Move → Type 0
 WatchMoves moves = moves ≡ []
 
--- and the book sees afterwards what it saw before, whatever builders do meanwhile
+-- the book sees after a watch what it saw before, whatever builders do meanwhile
 abbrev pub WatchesAreSteps : Type 0
 WatchesAreSteps =
     (w : WorldView) (groups : ℕ) (given : List (Key × ℕ)) (old new : BookModel)

@@ -47,7 +47,7 @@ pub fn reopenings_are_steps()
 {}
 
 /// Whatever a command answers: some list of moves, in any run from a world that the book sees, is
-/// answered as told and leads to a world that the book sees afterwards.
+/// answered as `answer_of` says and leads to a world that the book sees afterwards.
 pub fn commands_are_steps()
     ensures { CommandsAreSteps }
 {}
@@ -58,8 +58,8 @@ pub fn undos_are_steps()
     ensures { UndosAreSteps }
 {}
 
-/// A builder's start and finish, an arrival and a sweep are each done by some list of moves; a watch
-/// makes no move.
+/// A builder's start and finish, an arrival and a sweep are each done by some list of moves; a
+/// watch makes no move.
 pub fn other_calls_are_steps()
     ensures starts { StartsAreSteps }
     ensures finishes { FinishesAreSteps }
@@ -69,7 +69,7 @@ pub fn other_calls_are_steps()
 {}
 
 /// A watch leaves the history and the desk's seat, and a refused one the former watch. It is
-/// refused for its own reason, or for want of memory.
+/// refused for its own reason, or because memory runs out.
 pub fn watches_stay_aside()
     ensures aside { WatchesStayAside }
     ensures reasons { WatchesAreRefusedForReasons }
@@ -121,16 +121,16 @@ pub fn rows_are_replayed()
 {}
 
 /// The undo of a book's last command isn't refused by the journal, and leaves every row as it was
-/// before the command, but for the claims that the command had found: of any book, opened or
-/// reopened.
+/// before the command, except for the claims that the command had found. This holds of any book,
+/// opened or reopened.
 pub fn a_command_is_undone_at_once()
     ensures { UndoneAtOnce }
 {}
 
 /// The undo of a standing command that a later entry blocks is refused for the latest such, and
-/// changes nothing. One that no later entry blocks is undone, but for want of memory, or where a
-/// builder had won one of its rows: that claim is noted, and the undo refused for the claim's
-/// entry, the latest that blocks it from then on. So it is of any book.
+/// changes nothing. One that no later entry blocks is undone, unless memory runs out, or a builder
+/// had won one of its rows: that claim is noted, and the undo refused for the claim's entry, the
+/// latest that blocks it from then on. This holds of any book.
 pub fn an_undo_is_refused_where_blocked()
     ensures blocked { BlockedExactly }
     ensures undone { UndoneElse }

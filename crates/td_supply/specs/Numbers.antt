@@ -5,7 +5,7 @@ use Rattle.std.specs.Option.{option_map_or}
 use Rattle.std.specs.Str.{bytes_eq}
 use Rattle.td_supply.specs.declared.numbers.Numbers.{Numbers}
 
--- those under a name, in the order in which they came
+-- the numbers under a name, in the order in which they came
 abbrev pub numbers_of : Numbers → List ℕ → List ℕ
 numbers_of numbers name = option_map_or (λ list. list.items)
     (get_by (λ k. bytes_eq name k.now) numbers.by_name) []

@@ -9,8 +9,8 @@ use Rattle.td_relation.specs.Arch.{ArchWords}
 use Rattle.td_relation.specs.Table.{place_of}
 use Rattle.td_supply.specs.Places.{is_place}
 
--- whose rebuild an offer is:
--- a binary package of this source, which a rebuild offers at this version with its number behind it
+-- whose rebuild an offer is: a binary package of this source, which a rebuild offers at this
+-- version with its number after it
 pub record Built : Type 0 where
   pub source : List ℕ
   pub base : Parts
@@ -41,7 +41,7 @@ abbrev pub with_last_part : Parts → List ℕ → Parts
 with_last_part p text = option_map_or (λ r. record p { revision = Some text }) p.revision
     (record p { upstream = text })
 
--- the version with `+bN` behind it (N at least 1), and the version itself for 0
+-- the version with `+bN` after it (N at least 1), and the version itself for 0
 abbrev pub with_rebuild : Parts → ℕ → Parts
 with_rebuild p n = with_last_part p (rebuild_text (last_part p) n)
 

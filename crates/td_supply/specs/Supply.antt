@@ -23,7 +23,8 @@ pub record Stock : Type 0 where
   pub sources : List (List ℕ × List ℕ)
   pub offers : List Supplied
 
--- the same, with what has arrived
+-- the table of architectures, the sources with their versions as they are written, and the offers
+-- with what has arrived
 pub record SupplyView : Type 0 where
   pub table : List ArchWords
   pub sources : List (List ℕ × List ℕ)
@@ -70,7 +71,7 @@ arrived s source arch n = record s { items = map (arrived_at s.table source arch
 
 -- ---- 2. relations
 
--- an offer as it is now: a rebuild that has arrived stands in place of the index's version
+-- an offer as it is now: the version of a rebuild that has arrived instead of the index's
 abbrev pub offered_now : Item → Offered
 offered_now i = record { version = option_or i.rebuilt i.offer.version; arch = i.offer.arch }
 

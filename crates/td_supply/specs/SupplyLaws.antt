@@ -5,7 +5,7 @@ use Rattle.td_supply.specs.Supplied.{Built, Item, is_built_by, with_rebuild}
 use Rattle.td_supply.specs.Supply.{SupplyView, stock_of, opened, nothing, arrived, offered_now}
 use Rattle.td_supply.specs.Supply.{meets}
 
--- where there is nothing, not even an architecture, no text is met
+-- if there is nothing, not even an architecture, no text is met
 abbrev pub NothingIsMet : Type 0
 NothingIsMet = (text arch : List ℕ) → meets (opened nothing) text arch ≡ false
 
@@ -16,7 +16,7 @@ OthersStay =
     slice_get s.items number ≡ Some i → is_built_by s.table source arch i.offer ≡ false →
     slice_get (arrived s source arch n).items number ≡ Some i
 
--- so each offer of `all`
+-- each offer of `all` stays as it was, whatever arrives
 abbrev pub OffersOfAllStay : Type 0
 OffersOfAllStay =
     (s : SupplyView) (source arch : List ℕ) (n number : ℕ) (i : Item) →
@@ -24,7 +24,7 @@ OffersOfAllStay =
     slice_get (arrived s source arch n).items number ≡ Some i
 
 -- each binary package of the source on the architecture is offered at the version of its build with
--- the rebuild's number behind it
+-- the rebuild's number after it
 abbrev pub RebuildsAreOffered : Type 0
 RebuildsAreOffered =
     (s : SupplyView) (source arch : List ℕ) (n number place : ℕ) (i : Item) (b : Built) →
@@ -33,7 +33,7 @@ RebuildsAreOffered =
     option_map offered_now (slice_get (arrived s source arch n).items number)
     ≡ Some (record { version = Some (with_rebuild b.base n); arch = Some place })
 
--- of two arrivals of a source on an architecture the later one stands alone
+-- a later arrival of a source on an architecture leaves nothing of the one before it
 abbrev pub TheLastArrivalStands : Type 0
 TheLastArrivalStands = (s : SupplyView) (source arch : List ℕ) (m n : ℕ)
     → arrived (arrived s source arch m) source arch n ≡ arrived s source arch n

@@ -26,7 +26,7 @@ supplied s = record {
   build = option_map built s.build;
 }
 
--- the same with what has arrived
+-- an offer as the index has it, with what has arrived
 abbrev pub item : Stocked → Item
 item s = record { offer = supplied s; rebuilt = option_map rebuilt_parts s.rebuilt }
 

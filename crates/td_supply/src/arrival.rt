@@ -56,7 +56,8 @@ fn rebuild<'a>(
     }
 }
 
-// The same of the item with a number.
+// The version that a rebuild on the architecture at a place offers, if the item with a number is a
+// build there.
 fn rebuild_at<'a>(
     alloc: Global,
     items: &[Stocked<'a>],

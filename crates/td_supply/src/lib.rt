@@ -2,7 +2,7 @@
 //! arrived since.
 //!
 //! Start at `Supply`: `push` and `push_source` fill it from an index, `arrive` puts a rebuild's
-//! version in place of the index's, and `meets` asks whether a relation is met now. It holds slices
+//! version instead of the index's, and `meets` asks whether a relation is met now. It holds slices
 //! of the index's text. `Numbers` finds items by a name.
 //! Promised: an arrival changes the offers of its source on exactly its architecture and no other,
 //! and a relation is met exactly as td_relation's `specs/Meeting` says of what is on offer.

@@ -22,7 +22,7 @@ impl<'a> Numbers<'a> {
         }
     }
 
-    /// Adds a number behind those of its name.
+    /// Adds a number after those of its name.
     pub fn push(&mut self, name: &'a str, number: usize) -> Result<(), AllocError>
         ensures ok { OnOk result
             ((q : List ℕ)

@@ -2,7 +2,7 @@
 use td_version::Version;
 
 /// Whose rebuild an offer may be: a binary package of the source, which a rebuild offers at this
-/// version with its number behind it.
+/// version with its number after it.
 #[derive(Clone, Copy)]
 pub struct Build<'a> {
     pub source: &'a str,

@@ -1,4 +1,5 @@
--- Whitespace in front of a text and at its end: where runs stop, and what is left behind it.
+-- Whitespace at the beginning of a text and at its end: where runs stop, and what is left after
+-- them.
 use Rattle.std.proofs.Common.{◌≡◌, ℕ, Bool, true, false, ◌&&◌, List, [], ◌∷◌, ◌++◌, sym, ap, ◌∙◌}
 use Rattle.std.proofs.Common.{append-nil, inl, inr}
 use Rattle.std.specs.List.{list_all}

@@ -2,8 +2,8 @@
 use Rattle.std.specs.Prelude.{◌≡◌, ℕ, ◌+◌, List, ◌∷◌, ◌++◌, Result, Ok, Err, length}
 use Rattle.td_text.specs.Lines.{over_lines}
 
--- of the lines, the first of which has the number given, those before one are read, and at that one
--- the step over lines has the fault e
+-- the lines before one are read, and at that one the step over lines has the fault e; the first of
+-- the lines has the number given
 pub record FirstFault {S F : Type 0} (step : ℕ → S → List ℕ → Result S F) (number : ℕ) (seen : S)
     (lines : List (List ℕ)) (e : F) : Type 0 where
   pub before : List (List ℕ)

@@ -1,6 +1,5 @@
--- A text as its pieces between marks, and as its lines, and a reading line by line in which the first
--- fault decides.
--- This project's own.
+-- A text as its pieces between marks, and as its lines, and a reading line by line in which the
+-- first fault decides. This project's own.
 use Rattle.std.specs.Prelude.{ℕ, ◌+◌, ◌==◌, List, [], ◌∷◌, ◌++◌, Option, Some, None, Result, Ok}
 use Rattle.std.specs.Prelude.{Err, length}
 use Rattle.std.specs.Borrow.{Bor}
@@ -19,7 +18,7 @@ lines_of text = pieces_of 10 text
 abbrev pub text_of : List (List ℕ) → List ℕ
 text_of lines = flat_map (λ line. line ++ 10 ∷ []) lines
 
--- without the empty line behind a last newline
+-- the lines without the empty one after a last newline
 unfoldable pub ended : List (List ℕ) → List (List ℕ)
 ended [] = []
 ended ([] ∷ []) = []

@@ -10,12 +10,12 @@ use Rattle.std.specs.Fmt.{signed_decimal}
 use Rattle.td_text.specs.Cut.{strip}
 use Rattle.td_text.specs.Exact.{Exact}
 
--- a plus in front, or a zero before more
+-- whether a text begins with a plus, or with a zero before more
 abbrev pub has_spare_front : List ℕ → Bool
 has_spare_front text =
     (slice_index text 0 == 43) || ((slice_index text 0 == 48) && nat_lt 1 (length text))
 
--- one decimal digit or more, no needless zero in front
+-- one decimal digit or more, without a needless zero at the beginning
 abbrev pub is_numeral : List ℕ → Bool
 is_numeral text = nat_lt 0 (length text) && (not (has_spare_front text) && all_ascii_digits text)
 
@@ -39,10 +39,10 @@ signed_after max text (Some digits) =
 unfoldable pub signed_at : ℕ → List ℕ → Option ℤ
 signed_at max text = signed_after max text (strip (codes "-") text)
 
--- a text is read as a number exactly where it is the number in decimal
+-- a text is read as a number if and only if it is the number in decimal
 abbrev pub NumbersAreExact : Type 0
 NumbersAreExact = (max : ℕ) → max < 2 ^ 64 → Exact (number_at max) decimal (λ n. n ≤ max)
 
--- and the same of signed numbers
+-- a text is read as a signed number if and only if it is the number in decimal
 abbrev pub SignedAreExact : Type 0
 SignedAreExact = (max : ℕ) → max < 2 ^ 15 → Exact (signed_at max) signed_decimal (IsWithin max)

@@ -1,4 +1,4 @@
-//! Cuts of a text at a character, and behind a prefix.
+//! Cuts of a text at a character, and after a prefix.
 ghost use Rattle.std.specs.Prelude.{◌≡◌, ◌<◌, ◌∷◌, ◌++◌, ◌==◌, option_map, IfSome, IfNone};
 ghost use Rattle.std.specs.List.{position_or_len};
 ghost use Rattle.td_text.specs.Cut.{Without, cut, part, strip as strip_of};

@@ -3,7 +3,7 @@
 //!
 //! Start at `cut_at`, `next_piece` and `number`. Readers borrow from the text, take no memory, and
 //! answer `None` where the text isn't of their form; writers append, or leave the text as it was.
-//! Promised: a cut is at the first place, and a number is read exactly where it is written so.
+//! Promised: a cut is at the first place, and a number is read if and only if it is written so.
 //! `specs/Lines.antt` and `specs/FirstFault.antt` say what a reader of lines gives, whatever it
 //! reads from a line.
 #![tactic(auto)]

@@ -8,7 +8,7 @@ ghost use Rattle.td_text.specs.Lines.{pieces_left, pieces_of, text_left};
 
 use memchr::memchr;
 
-/// The first piece before a mark, an ASCII character, and what follows that mark; `None` behind the
+/// The first piece before a mark, an ASCII character, and what follows that mark; `None` after the
 /// last piece. For marks that may be far: it looks at many bytes at once, as `cut_at` doesn't.
 #[inline]
 pub fn next_piece(text: &str, mark: char) -> (&str, Option<&str>)
@@ -24,7 +24,7 @@ pub fn next_piece(text: &str, mark: char) -> (&str, Option<&str>)
     }
 }
 
-/// The first line, without its newline, and what follows that; `None` behind the last line.
+/// The first line, without its newline, and what follows that; `None` after the last line.
 pub fn next_line(text: &str) -> (&str, Option<&str>)
     ensures lines { lines_of text.now ≡ result.0.now ∷ lines_left result.1 }
     ensures text { text.now ≡ result.0.now ++ left_text result.1 }
@@ -34,7 +34,7 @@ pub fn next_line(text: &str) -> (&str, Option<&str>)
     next_piece(text, '\n')
 }
 
-/// What stands behind a line, as `next_line` tells it: nothing behind the last.
+/// What comes after a line, as `next_line` gives it: nothing after the last.
 pub fn behind(after: Option<&str>) -> &str
     ensures found { (rest : Bor (List ℕ)) → after.entry ≡ Some rest → result.now ≡ rest.now }
     ensures none { after.entry ≡ None → result.now ≡ [] }

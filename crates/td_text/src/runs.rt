@@ -15,7 +15,7 @@ pub fn is_space(byte: u8) -> bool
     byte == b' ' || byte == b'\t' || byte == b'\n'
 }
 
-/// Whether the text is whitespace alone.
+/// Whether the text is only whitespace, or empty.
 pub fn is_blank(text: &str) -> bool
     ensures { result ≡ is_blank_of text.now }
 {
@@ -28,7 +28,7 @@ fn space_len(bytes: &[u8]) -> usize
     bytes.iter().take_while(|b| is_space(**b)).count()
 }
 
-/// The text without the whitespace in front of it.
+/// The text without the whitespace at its beginning.
 pub fn trimmed(text: &str) -> &str
     ensures value { result.now ≡ trimmed_of text.now }
     ensures shorter { length result.now ≤ length text.now }

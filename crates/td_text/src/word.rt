@@ -6,7 +6,7 @@ ghost use Rattle.td_text.specs.Words.{is_name_byte as is_name_byte_of};
 ghost use Rattle.td_text.specs.Words.{is_arch_byte as is_arch_byte_of, is_name as is_name_of};
 ghost use Rattle.td_text.specs.Words.{is_arch as is_arch_of};
 
-/// 1 at each byte that a package's name may have, and else 0: one look in the place of up to five
+/// 1 at each byte that a package's name may have, and else 0: one look instead of up to five
 /// comparisons, for the bytes that are looked at most.
 const NAME_BYTES: [u8; 256] = [
     0, 0, 0, 0, 0, 0, 0, 0, 0, 0, 0, 0, 0, 0, 0, 0, 0, 0, 0, 0, 0, 0, 0, 0, 0, 0, 0, 0, 0, 0, 0, 0,

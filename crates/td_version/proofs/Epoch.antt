@@ -1,4 +1,4 @@
--- An epoch is read where it is written by digits alone.
+-- An epoch is read only if it is written in digits and nothing else.
 use Rattle.std.proofs.Common.{◌≡◌, ◌≢◌, ℕ, cond, leb, List, [], ◌∷◌, length, get_or, Ok, Err, refl}
 use Rattle.std.proofs.Common.{◌∙◌, ap, arith}
 use Rattle.std.specs.Str.Parse.{digits_value, ParsesUnsigned}

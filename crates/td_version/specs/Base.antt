@@ -18,18 +18,18 @@ rebuilt_from part = do
   n ← number_at max_rebuild digits
   if n == 0 then None else Some p.0
 
--- the part without it
+-- a part without `+bN` at its end
 abbrev pub base_part : List ℕ → List ℕ
 base_part part = unwrap_or (rebuilt_from part) part
 
--- the same of an upstream part behind an epoch;
--- it is its own base where nothing else would be left of the version. An epoch of 0 counts as none
+-- an upstream part after an epoch, without `+bN` at its end; it is its own base if nothing else
+-- would be left of the version. An epoch of 0 counts as none
 abbrev pub upstream_base : ℕ → List ℕ → List ℕ
 upstream_base epoch upstream = if (length (base_part upstream) == 0) && (epoch == 0) then upstream
     else base_part upstream
 
--- the version without it at the end of its revision,
--- or of its upstream part where no revision is written
+-- the version without `+bN` at the end of its revision, or of its upstream part if no revision is
+-- written
 abbrev pub base_by : ℕ → List ℕ → Option (List ℕ) → Parts
 base_by epoch upstream None = record {
   epoch = epoch;

@@ -19,7 +19,7 @@ unfoldable pub after_digits : List ℕ → List ℕ
 after_digits [] = []
 after_digits (b ∷ part) = if is_ascii_digit b then after_digits part else b ∷ part
 
--- digits without the zeros in front
+-- digits without the zeros at the beginning
 unfoldable pub without_zeros : List ℕ → List ℕ
 without_zeros [] = []
 without_zeros (b ∷ digits) = if b == 48 then without_zeros digits else b ∷ digits

@@ -18,7 +18,7 @@ IsFirstBad may start part place = (i : ℕ) × (position (λ b. not (may b)) par
 abbrev pub upstream_start : Written → ℕ
 upstream_start w = length (epoch_front w.epoch)
 
--- where the revision begins, behind the hyphen
+-- where the revision begins, after the hyphen
 abbrev pub revision_start : Written → ℕ
 revision_start w = upstream_start w + length w.upstream + 1
 

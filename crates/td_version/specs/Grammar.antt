@@ -45,12 +45,12 @@ pub record IsCut (text : List ℕ) (w : Written) : Type 0 where
   pub first_colon : IsFirstColon w.epoch (w.upstream ++ revision_back w.revision)
   pub last_hyphen : IsLastHyphen w.upstream w.revision
 
--- ASCII letters, digits, `.`, `+` and `~` may stand in a revision ..
+-- ASCII letters, digits, `.`, `+` and `~` may stand in a revision.
 abbrev pub is_revision_byte : ℕ → Bool
 is_revision_byte b = is_letter b || (is_ascii_digit b || ((b == 46) || ((b == 43) || (b == 126))))
 
--- .. and in an upstream part also `-`, and `:` where an epoch is written (this project's choice,
--- and dpkg's).
+-- What may stand in a revision may stand in an upstream part, and also `-`, and `:` where an epoch
+-- is written (this project's choice, and dpkg's).
 abbrev pub is_upstream_byte : Bool → ℕ → Bool
 is_upstream_byte has_epoch b = is_revision_byte b || ((b == 45) || (has_epoch && (b == 58)))
 

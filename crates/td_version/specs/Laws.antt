@@ -16,7 +16,7 @@ IsAtMost a b = version_cmp a b ≢ Greater
 abbrev pub IsReflexive : Type 0
 IsReflexive = (a : Parts) → version_cmp a a ≡ Equal
 
--- Of two versions, one is at most the other: asked the other way round, the answer turns round.
+-- One of two versions is at most the other: asked the other way round, the answer turns round.
 abbrev pub IsTotal : Type 0
 IsTotal = (a b : Parts) → version_cmp b a ≡ ordering_reverse (version_cmp a b)
 

@@ -14,19 +14,21 @@ pub record Pair : Type 0 where
   pub symbols : List ℕ
   pub digits : List ℕ
 
--- A symbol in front of a part joins the symbols of its first pair.
+-- A symbol at the beginning of a part joins the symbols of its first pair.
 abbrev pub symbol_onto : ℕ → List Pair → List Pair
 symbol_onto b [] = record { symbols = b ∷ []; digits = [] } ∷ []
 symbol_onto b (p ∷ ps) = record { symbols = b ∷ p.symbols; digits = p.digits } ∷ ps
 
--- A digit in front joins the digits of the first pair where that has no symbols ..
+-- A digit before a first pair with these symbols and digits joins the digits if there are no
+-- symbols, and is else a pair of its own.
 abbrev pub digit_beside : ℕ → List ℕ → List ℕ → List Pair → List Pair
 digit_beside b [] digits ps = record { symbols = []; digits = b ∷ digits } ∷ ps
 digit_beside b (s ∷ symbols) digits ps =
     record { symbols = []; digits = b ∷ [] } ∷
     (record { symbols = s ∷ symbols; digits = digits } ∷ ps)
 
--- .. and is else a pair of its own.
+-- A digit at the beginning of a part joins the digits of its first pair if that has no symbols, and
+-- is else a pair of its own.
 abbrev pub digit_onto : ℕ → List Pair → List Pair
 digit_onto b [] = record { symbols = []; digits = b ∷ [] } ∷ []
 digit_onto b (p ∷ ps) = digit_beside b p.symbols p.digits ps

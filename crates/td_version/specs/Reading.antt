@@ -96,7 +96,7 @@ judged w =
 abbrev pub reading : List ℕ → Result Parts VersionFault
 reading text = judged (pieces text)
 
--- the parts in the place of the version
+-- the parts of the version that is read, or the fault
 abbrev pub parts_read : Result Version VersionFault → Result Parts VersionFault
 parts_read (Ok v) = Ok (parts_of v)
 parts_read (Err fault) = Err fault

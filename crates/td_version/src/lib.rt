@@ -3,8 +3,9 @@
 //!
 //! Start at `Version::read` and `cmp_version`. A `Version` holds slices of the text, and no call
 //! but `write_rebuild` takes memory; numbers may have any length.
-//! Promised: a text is read exactly where it is a version, else the first fault is named; the order
-//! is that of lists of symbols and numbers; a rebuild's `+bN` is split off and written exactly.
+//! Promised: a text is read if and only if it is a version, else the first fault is named; the
+//! order is that of lists of symbols and numbers; a rebuild's `+bN` is split off and written
+//! exactly.
 #![tactic(auto)]
 
 mod base;

@@ -28,7 +28,7 @@ use crate::cutting::cut_at_last;
 use crate::version::{MAX_EPOCH, Version, VersionFault};
 use td_text::cut_at;
 
-/// 1 at each byte that may stand in a revision, and else 0: one look in the place of up to nine
+/// 1 at each byte that may stand in a revision, and else 0: one look instead of up to nine
 /// comparisons.
 const REVISION_BYTES: [u8; 256] = [
     0, 0, 0, 0, 0, 0, 0, 0, 0, 0, 0, 0, 0, 0, 0, 0, 0, 0, 0, 0, 0, 0, 0, 0, 0, 0, 0, 0, 0, 0, 0, 0,
@@ -61,7 +61,8 @@ pub fn read(text: &str) -> Result<Version<'_>, VersionFault>
     }
 }
 
-/// Whether each byte may stand in an upstream part that has no epoch in front, as in most versions.
+/// Whether each byte may stand in an upstream part that has no epoch before it, as in most
+/// versions.
 fn is_plain(text: &str) -> bool
     ensures { result ≡ list_all (upstream_byte false) text.now }
 {
@@ -171,7 +172,7 @@ fn epoch_number(digits: &str) -> Result<u32, VersionFault>
     }
 }
 
-/// A revision may be missing. Else it stands behind the hyphen at this place.
+/// A revision may be missing. Else it comes after the hyphen at this place.
 #[tactic(auto, unfolding(crate::specs::Reading::revision_at))]
 fn check_revision(revision: Option<&str>, hyphen: usize) -> Result<(), VersionFault>
     requires { ForSome revision (λ part. hyphen + 1 + length part.now < 2 ^ 64) }

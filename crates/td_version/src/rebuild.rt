@@ -34,7 +34,7 @@ fn rebuild(text: &str) -> Option<(&str, u16)>
     Some((base, number))
 }
 
-/// The base with `+bN` behind it, and the base alone for number 0.
+/// The base with `+bN` after it, and only the base for number 0.
 pub fn write_rebuild(alloc: Global, base: &str, number: u16) -> Result<String, AllocError>
     requires { number ≤ max_rebuild }
     ensures { IfOk result (λ text. string_bytes text ≡ rebuild_text base.now number) }

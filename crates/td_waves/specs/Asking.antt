@@ -18,11 +18,13 @@ abbrev pub is_base : Asker → ℕ → Asked → Provider → Bool
 is_base asker t x p = (is_other asker.names.now.keys asker.name.now p.owner
     && fits asker.archive.now asker.number x p.home) && (p.owner == t)
 
--- such a package is found under the name of an alternative
+-- under the name of an alternative a package is found of the source with the number t, which is
+-- another than the one that asks, and the alternative fits
 abbrev pub is_found : Asker → ℕ → Asked → Bool
 is_found asker t x = list_any (is_base asker t x) (under asker.providers.now x.name)
 
--- under the name of some alternative of the source's build
+-- a package of the source with the number t, another than the one that asks, is found under the
+-- name of some fitting alternative of the asking source's build
 abbrev pub finds : Asker → ℕ → Bool
 finds asker t = some_asked (is_found asker t) (asked_first asker.archive.now asker.number)
     || some_asked (is_found asker t) (asked_for_arch asker.archive.now asker.number)

@@ -29,7 +29,8 @@ abbrev pub fits_at : Contents → ℕ → Asked → Option ℕ → ℕ → Bool
 fits_at a source x home place = is_on place home
     && (is_active_at a.table place x && has_row_at a source place)
 
--- so on some architecture
+-- on some architecture there is the package with this home, the alternative is active, and the
+-- source has a row
 abbrev pub fits : Contents → ℕ → Asked → Option ℕ → Bool
 fits a source x home = list_any (fits_at a source x home) (range_with_len 0 (length a.table))
 
@@ -39,7 +40,8 @@ abbrev pub names_package : Contents → ℕ → Asked → KeptBinary → Bool
 names_package a source x b = list_any (λ name. bytes_eq x.name name && fits a source x b.head.home)
     (offered_names b)
 
--- .. some package of the source t
+-- an alternative of a source's build names some package of the source t, or what that provides,
+-- where it fits
 abbrev pub names_some_of : Contents → ℕ → List ℕ → Asked → Bool
 names_some_of a source t x = list_any (λ b. is_of t b && names_package a source x b) a.binaries
 

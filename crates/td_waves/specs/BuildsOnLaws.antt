@@ -40,7 +40,7 @@ pub record AsksFor (a : Contents) (s t : List ℕ) : Type 0 where
   pub place : ℕ
   pub meets : MeetsAt a source alternative binary place
 
--- a source builds on another exactly where it asks for it
+-- a source builds on another if and only if it asks for it
 abbrev pub SourcesBuildOnWhatTheyAskFor : Type 0
 SourcesBuildOnWhatTheyAskFor =
     (a : Contents) (s t : List ℕ) → IsTrue (builds_on a s t) ↔ AsksFor a s t

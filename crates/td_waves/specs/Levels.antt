@@ -3,15 +3,15 @@ use Rattle.std.specs.Prelude.{◌≡◌, ◌⊎◌, ◌<◌, ◌≤◌, ℕ, zer
 use Rattle.td_waves.specs.declared.level.Level.{Level}
 use Rattle.td_waves.specs.declared.level.Level.TheVariants.{At, Cyclic}
 
--- x is affected, is not in P, and builds on affected ones in P alone
+-- x is affected, is not in P, and builds on no affected one outside P
 pub record Follows {X : Type 0} (Affected : X → Type 0) (BuildsOn : X → X → Type 0) (P : X → Type 0)
     (x : X) : Type 0 where
   pub affected : Affected x
   pub not_before : ¬ P x
   pub grounded : (y : X) → Affected y → BuildsOn x y → P y
 
--- x is in a level up to k: none is in a level up to 0;
--- level k + 1 has those in no level up to k that build on affected ones of those levels alone
+-- x is in a level up to k: none is in a level up to 0; level k + 1 has the affected ones in no
+-- level up to k that build on no affected one outside those levels
 abbrev pub UpTo : {X : Type 0} → (X → Type 0) → (X → X → Type 0) → ℕ → X → Type 0
 UpTo Affected BuildsOn zero x = ⊥
 UpTo Affected BuildsOn (suc k) x = UpTo Affected BuildsOn k x

@@ -19,7 +19,7 @@ use Rattle.td_waves.specs.Named.{texts}
 abbrev pub all_found : Found → List Provider
 all_found found = found.first ∷ found.others.items
 
--- those under a name
+-- the packages that are found under a name
 abbrev pub under : Providers → List ℕ → List Provider
 under providers name = option_map_or all_found
     (get_by (λ k. bytes_eq name k.now) providers.by_name) []
@@ -33,17 +33,17 @@ abbrev pub passes_under : List ℕ → (Provider → Bool) → ℕ → KeptBinar
 passes_under q test owner b = list_any (λ name.
     bytes_eq q name && test (provider b.head.home owner)) (offered_names b)
 
--- the same of the package with a number
+-- the package with a number offers the name, and what is kept of it passes a test
 abbrev pub passes_numbered : Contents → List ℕ → (Provider → Bool) → ℕ → ℕ → Bool
 passes_numbered a q test owner number = option_map_or (passes_under q test owner)
     (slice_get a.binaries number) false
 
--- some package of a source does
+-- some package of a source offers the name, and what is kept of it passes a test
 abbrev pub some_passes : Contents → List ℕ → (Provider → Bool) → List ℕ → ℕ → Bool
 some_passes a q test source owner = list_any (λ b.
     is_of source b && passes_under q test owner b) a.binaries
 
--- some package of the first n of the sources does
+-- some package of the first n of the sources offers the name, and what is kept of it passes a test
 abbrev pub some_below : Contents → List (List ℕ) → List ℕ → (Provider → Bool) → ℕ → Bool
 some_below a names q test zero = false
 some_below a names q test (suc n) = some_below a names q test n

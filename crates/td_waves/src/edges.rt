@@ -46,7 +46,8 @@ fn bases_of<'a>(
     asker.bases(alloc)
 }
 
-// For each of these sources, whose packages these are, the numbers of those on which it builds.
+// The numbers of the sources on which each source of `names` builds; `providers` are the packages
+// of these sources.
 fn edges_by<'a>(
     rt: &(impl Threads + Sync),
     alloc: Global,
@@ -72,7 +73,7 @@ fn edges_by<'a>(
 }
 
 /// For each of these sources, the numbers of those among them on which it builds, some of them more
-/// than once. Of many sources each thread finds the lists of some.
+/// than once. If the sources are many, each thread finds the lists of some.
 pub fn edges(
     rt: &(impl Threads + Sync),
     alloc: Global,

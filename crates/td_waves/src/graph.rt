@@ -18,7 +18,7 @@ fn enter(users: &mut Vec<Vec<usize>>, node: usize, bases: &[usize]) -> Result<()
     Ok(())
 }
 
-// So many empty lists.
+// This many empty lists.
 fn empty_lists(alloc: Global, count: usize) -> Result<Vec<Vec<usize>>, AllocError>
     ensures empty { IfOk result (λ users. (t : ℕ) → bases_of (lists users.items) t ≡ []) }
     ensures len { IfOk result (λ users. length users.items ≡ count) }

@@ -41,7 +41,7 @@ impl<'a> Providers<'a> {
     ghost use Rattle.td_waves.specs.Providers.{all_found, passes_numbered, some_below};
     ghost use Rattle.td_waves.specs.Providers.{some_passes, under};
 
-    // None yet, and room for so many names.
+    // No package yet, and room for this many names.
     fn with_capacity(alloc: Global, names: usize) -> Result<Providers<'a>, AllocError>
         ensures { IfOk result (λ providers. (q : List ℕ) → under providers q ≡ []) }
     {

@@ -1,4 +1,4 @@
--- A priority's size is read where it is written by digits alone.
+-- A priority's size is read only if it is written in digits and nothing else.
 use Rattle.std.proofs.Common.{◌≡◌, ◌≢◌, ℕ, cond, leb, List, get_or, Some, None, Ok, Err, ◌∙◌, ap}
 use Rattle.std.proofs.Common.{arith}
 use Rattle.std.specs.Str.Parse.{digits_value, ParsesUnsigned}

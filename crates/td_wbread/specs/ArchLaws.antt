@@ -1,5 +1,5 @@
--- Which words are architectures with a dot or the end behind them, said of the whole list.
--- This project's own.
+-- Which words are architectures with a dot or the end after them, said of the whole list. This
+-- project's own.
 use Rattle.std.specs.Prelude.{◌≡◌, ◌↔◌, ◌&&◌, true, false, Bool, List, [], ◌∷◌, ◌++◌, Option, Some}
 use Rattle.std.specs.Prelude.{None, Ok}
 use Rattle.std.specs.List.{list_all, list_any}
@@ -15,7 +15,7 @@ are_arch_words table [] = false
 are_arch_words table (word ∷ words) = is_choice table word.text
     && list_all (λ w. is_arch_word table w.text) words
 
--- behind these words comes the end, or a dot and the rest
+-- after these words comes the end, or a dot and the rest
 abbrev pub GoesOn : List Word → List Word → Option (List Word) → Type 0
 GoesOn words front None = words ≡ front
 GoesOn words front (Some rest) = (dot : Word) × (words ≡ front ++ dot ∷ rest) × (is_dot dot ≡ true)
@@ -27,7 +27,8 @@ pub record AreArchs (table : List ArchWords) (words front : List Word)
   pub no_dot : list_any is_dot front ≡ false
   pub archs : are_arch_words table front ≡ true
 
--- words are read so exactly where they are so
+-- words are read as architectures if and only if they name architectures, and the end, or a dot and
+-- the rest, comes after them
 abbrev pub ArchsAreExact : Type 0
 ArchsAreExact = (table : List ArchWords) (end : End) (words front : List Word)
     (behind : Option (List Word)) →

@@ -45,8 +45,8 @@ archs_checked table (word ∷ words) =
     if is_choice table word.text then all_pass (is_arch_word table) UnknownArch words
     else Err (Wrong UnknownArch word.place)
 
--- the words that name architectures, up to a dot or the end,
--- and those behind the dot, if it is there
+-- the words that name architectures, up to a dot or the end, and those after the dot, if it is
+-- there
 abbrev pub archs_at : List ArchWords → End → List Word
     → Result (List Word × Option (List Word)) CommandFault
 archs_at table end words =

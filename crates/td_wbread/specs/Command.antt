@@ -28,7 +28,7 @@ text_or_empty None = []
 text_or_empty (Some word) = word.text
 
 -- what stands at the head of a command line: its verb with its number, its packages, its
--- architectures, and the words behind the dot that may follow these
+-- architectures, and the words after the dot that may follow these
 pub record Head : Type 0 where
   pub verb : Verb
   pub packages : List Word
@@ -64,7 +64,7 @@ spoken_at table suites end words =
       values = values;
     })))
 
--- the command that such words are
+-- the command that the parts of a command line are
 abbrev pub command_of : List ArchWords → Spoken → CommandParts
 command_of table s = record {
   verb = s.verb;

@@ -11,12 +11,12 @@ use Rattle.td_wbread.specs.declared.word.Word.{Word}
 use Rattle.td_wbread.specs.declared.word.End.{End}
 use Rattle.td_wbread.specs.declared.word.End.TheVariants.{Closed, Open}
 
--- a fault is the reading's, unless it is want of memory
+-- a fault is the reading's; `NoMemory` may be the answer for any reading
 abbrev pub IsFaultOf : {A : Type 0} → Result A CommandFault → CommandFault → Type 0
 IsFaultOf read NoMemory = Unit {0}
 IsFaultOf read (Wrong what place) = read ≡ Err (Wrong what place)
 
--- this fault, or want of memory
+-- this fault, or that memory ran out
 abbrev pub IsOrNoMemory : CommandFault → CommandFault → Type 0
 IsOrNoMemory fault NoMemory = Unit {0}
 IsOrNoMemory fault (Wrong what place) = Wrong what place ≡ fault
@@ -38,7 +38,7 @@ is_dot word = is_sign (codes ".") word
 abbrev pub before_dot : List Word → List Word
 before_dot words = before_first is_dot words
 
--- the words behind the first dot, where there is one
+-- the words after the first dot, if there is one
 abbrev pub behind_dot : List Word → Option (List Word)
 behind_dot words = option_map (λ i. drop (i + 1) words) (position is_dot words)
 

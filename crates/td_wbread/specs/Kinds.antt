@@ -6,8 +6,8 @@ use Rattle.td_wbread.specs.declared.command.Verb.{Verb}
 use Rattle.td_wbread.specs.declared.command.Verb.TheVariants.{Gb, Nmu, Bp, Dw}
 use Rattle.td_wbread.specs.Command.{CommandParts}
 
--- by its verb: a rebuild has what it needs beside its build dependencies, and a message; the
--- message of `dw` is the relation to wait for
+-- the kind of a command by its verb: a rebuild has what it needs in addition to its build
+-- dependencies, and a message; the message of `dw` is the relation to wait for
 abbrev pub kind_with : Verb → List ℕ → List ℕ → Kind
 kind_with Gb extra message = kinds.Gb
 kind_with (Nmu number) extra message = kinds.Nmu number extra message

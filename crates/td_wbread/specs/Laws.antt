@@ -6,7 +6,7 @@ use Rattle.td_rows.specs.Text.{has_newline}
 use Rattle.td_wbread.specs.declared.word.End.TheVariants.{Closed}
 use Rattle.td_wbread.specs.Words.{end_of, words_of}
 
--- a text between quotes, and a space behind it
+-- a text between quotes, and a space after it
 abbrev pub quoted_text : List ℕ → List ℕ
 quoted_text text = 39 ∷ (text ++ 39 ∷ (32 ∷ []))
 
@@ -19,8 +19,8 @@ pub record CanBeQuoted (text : List ℕ) : Type 0 where
   pub unquoted : Without 39 text
   pub one_line : has_newline text ≡ false
 
--- the words of texts that stand between quotes, one behind the other, are these texts, and nothing
--- is left behind them
+-- the words of texts that stand between quotes, one after the other, are these texts, and nothing
+-- is left after them
 abbrev pub QuotedWordsAreRead : Type 0
 QuotedWordsAreRead = (texts : List (List ℕ)) → AllByRecursion CanBeQuoted texts →
     (map (λ w. w.text) (words_of (quoted_line texts)) ≡ texts)

@@ -26,7 +26,7 @@ is_base version (Err fault) = false
 abbrev pub split_of : List ℕ → List ℕ × ℕ
 split_of text = unwrap_or (rebuild_at text) (text, 0)
 
--- without a rebuild number, or with the row's
+-- a version has no rebuild number, or the row's
 abbrev pub is_numbered : ℕ → ℕ → Bool
 is_numbered rebuild number = (rebuild == 0) || (rebuild == number)
 

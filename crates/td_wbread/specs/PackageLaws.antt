@@ -1,4 +1,4 @@
--- Which words are packages with a dot behind them, said of the whole list. This project's own.
+-- Which words are packages with a dot after them, said of the whole list. This project's own.
 use Rattle.std.specs.Prelude.{◌≡◌, ◌↔◌, ◌<◌, true, false, List, ◌∷◌, ◌++◌, Ok, length}
 use Rattle.std.specs.List.{list_all, list_any}
 use Rattle.td_wbread.specs.declared.word.Word.{Word}
@@ -15,7 +15,8 @@ pub record ArePackages (words front rest : List Word) : Type 0 where
   pub some : 0 < length front
   pub packages : list_all (λ w. is_package w.text) front ≡ true
 
--- words are read so exactly where they are so
+-- words are read as packages if and only if they name packages, at least one, and a dot and the
+-- rest come after them
 abbrev pub PackagesAreExact : Type 0
 PackagesAreExact = (end : End) (words front rest : List Word)
     → (packages_at end words ≡ Ok (front, rest)) ↔ ArePackages words front rest

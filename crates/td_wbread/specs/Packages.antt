@@ -40,13 +40,13 @@ is_package text = is_some (package_at text)
 abbrev pub packages_of : List Word → List PackageText
 packages_of words = filter_map (λ w. package_at w.text) words
 
--- the dot behind the packages, and what follows it
+-- the dot after the packages, and what follows it
 abbrev pub dotted : End → List Word → Option (List Word)
     → Result (List Word × List Word) CommandFault
 dotted end front None = Err (missing end NoDot)
 dotted end front (Some words) = Ok (front, words)
 
--- the words that name packages, up to the dot, and those behind it
+-- the words that name packages, up to the dot, and those after it
 abbrev pub packages_at : End → List Word → Result (List Word × List Word) CommandFault
 packages_at end words =
     on_ok (filled end NoPackage words) (λ _.

@@ -106,7 +106,7 @@ abbrev pub asks_relation : Verb → Word → Bool
 asks_relation verb word =
     (is_message word && needs_relation verb) || (is_extra word && takes_extra verb)
 
--- with the value of an option
+-- the values seen with that of one more option
 abbrev pub with_value : Flag → Values → Word → Values
 with_value Message seen value = record { message = Some value; extra = seen.extra }
 with_value ExtraDepends seen value = record { message = seen.message; extra = Some value }
@@ -144,7 +144,7 @@ suite_end verb end (word ∷ words) = if is_dot word then options_at verb end no
 abbrev pub is_suite : List (List ℕ) → List ℕ → Bool
 is_suite suites name = list_any (λ s. bytes_eq s name) suites
 
--- what follows the dot behind the architectures: nothing, options, or a suite
+-- what follows the dot after the architectures: nothing, options, or a suite
 abbrev pub dot_end : Verb → List (List ℕ) → End → List Word → Result Values CommandFault
 dot_end verb suites end [] = finished verb end no_values
 dot_end verb suites end (word ∷ words) =

@@ -54,17 +54,18 @@ AreOptions verb (flag ∷ value ∷ other ∷ second ∷ one ∷ more) values = 
 
 -- ---- 2. the five shapes
 
--- behind the last word of the line no quote is open, and a verb that waits for a relation has one
+-- after the last word of the line no quote is open, and a verb that waits for a relation has one
 abbrev pub MayEnd : Verb → End → Values → Type 0
 MayEnd verb (Open place) values = ⊥
 MayEnd verb (Closed place) values = needs_relation verb ≡ true → is_some values.message ≡ true
 
--- behind a suite: the end, or a dot and options
+-- after a suite comes the end, or a dot and options
 abbrev pub FollowSuite : Verb → List Word → Values → Type 0
 FollowSuite verb [] values = AreValues None None values
 FollowSuite verb (dot ∷ words) values = (is_dot dot ≡ true) × AreOptions verb words values
 
--- behind a dot: the end, options, or a suite, which isn't spelled as an option, and what follows it
+-- after a dot comes the end, options, or a suite, which isn't spelled as an option, and what
+-- follows it
 abbrev pub FollowDot : Verb → List (List ℕ) → List Word → Values → Type 0
 FollowDot verb suites [] values = AreValues None None values
 FollowDot verb suites (word ∷ words) values =
@@ -72,13 +73,13 @@ FollowDot verb suites (word ∷ words) values =
     ⊎ ((is_option word ≡ false) × (is_suite suites word.text ≡ true)
     × FollowSuite verb words values)
 
--- behind the architectures: the end, or a dot and more
+-- after the architectures comes the end, or a dot and more
 abbrev pub FollowArchs : Verb → List (List ℕ) → Option (List Word) → Values → Type 0
 FollowArchs verb suites None values = AreValues None None values
 FollowArchs verb suites (Some words) values = FollowDot verb suites words values
 
--- what follows the architectures is read so exactly where it has one of these shapes,
--- and the line may end behind it
+-- what follows the architectures is read so if and only if it has one of these shapes, and the line
+-- may end after it
 abbrev pub TailsAreExact : Type 0
 TailsAreExact = (verb : Verb) (suites : List (List ℕ)) (end : End) (behind : Option (List Word))
     (values : Values) →

@@ -21,7 +21,7 @@ pub record AreDigits (text : List ℕ) : Type 0 where
   pub some : 0 < length text
   pub digits : all_ascii_digits text ≡ true
 
--- the digits write this number, of at most 9999, in whatever way zeros stand in front
+-- the digits write this number, of at most 9999, with any number of zeros at the beginning
 pub record IsSize (text : List ℕ) (n : ℕ) : Type 0 where
   pub are_digits : AreDigits text
   pub value : digits_value 10 text ≡ n
@@ -61,8 +61,8 @@ BeginsWithNumber end (word ∷ words) = AreDigits word.text × GoesOn end words
 abbrev pub Follows : List ℕ → List Word → List Word → Type 0
 Follows text words rest = (word : Word) × (words ≡ word ∷ rest) × (word.text ≡ text)
 
--- the words are those of the verb, and the rest: `gb`; `nmu` alone, where no number follows it;
--- `nmu` and a number, behind which another word comes; `bp` and a priority; `dw`
+-- the words are those of the verb, and the rest: `gb`; only `nmu`, if no number follows it; `nmu`
+-- and a number, after which another word comes; `bp` and a priority; `dw`
 abbrev pub IsVerb : End → List Word → Verb → List Word → Type 0
 IsVerb end words Gb rest = Follows (codes "gb") words rest
 IsVerb end words (Nmu None) rest = Follows (codes "nmu") words rest
@@ -73,7 +73,7 @@ IsVerb end words (Bp priority) rest = (number : Word) × Follows (codes "bp") wo
     × IsPriority number.text priority
 IsVerb end words Dw rest = Follows (codes "dw") words rest
 
--- a verb is read so exactly where it has one of these shapes
+-- a verb is read if and only if the words have one of its shapes
 abbrev pub VerbsAreExact : Type 0
 VerbsAreExact = (end : End) (words : List Word) (verb : Verb) (rest : List Word)
     → (verb_at end words ≡ Ok (verb, rest)) ↔ IsVerb end words verb rest

@@ -28,16 +28,16 @@ is_digits text = nat_lt 0 (length text) && list_all is_ascii_digit text
 
 -- ---- `bp` and a priority
 
--- one digit or more, of a number of at most 9999; zeros in front don't count
+-- one digit or more, of a number of at most 9999; zeros at the beginning don't count
 abbrev pub is_size : List ℕ → Bool
 is_size text = nat_lt 0 (length text)
     && (all_ascii_digits text && nat_le (digits_value 10 text) max_priority)
 
--- the number that such digits are
+-- the number that one digit or more are, if it is at most 9999
 abbrev pub size_at : List ℕ → Option ℕ
 size_at text = if is_size text then Some (digits_value 10 text) else None
 
--- by what follows the minus, if there is one
+-- the priority of a text by what follows its minus, if there is one
 abbrev pub priority_after : List ℕ → Option (List ℕ) → Option ℤ
 priority_after text None = size_at text >>= λ n. Some (pos n)
 priority_after text (Some digits) = size_at digits >>= λ n. Some (neg_ℤ (pos n))

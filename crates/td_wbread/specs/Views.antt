@@ -13,19 +13,19 @@ use Rattle.td_wbread.specs.Command.{CommandParts, Head, Spoken}
 use Rattle.td_wbread.specs.Packages.{PackageText}
 use Rattle.td_wbread.specs.Tail.{Values}
 
--- a verb, and the words behind it
+-- a verb, and the words after it
 abbrev pub verb_read : Result (Verb × Bor (List Word)) CommandFault
     → Result (Verb × List Word) CommandFault
 verb_read (Ok p) = Ok (p.0, p.1.now)
 verb_read (Err fault) = Err fault
 
--- words before a dot, and behind it
+-- words before a dot, and after it
 abbrev pub packages_read : Result (Bor (List Word) × Bor (List Word)) CommandFault
     → Result (List Word × List Word) CommandFault
 packages_read (Ok p) = Ok (p.0.now, p.1.now)
 packages_read (Err fault) = Err fault
 
--- words before a dot, and behind it, where it is there
+-- words before a dot, and after it, if it is there
 abbrev pub archs_read : Result (Bor (List Word) × Option (Bor (List Word))) CommandFault
     → Result (List Word × Option (List Word)) CommandFault
 archs_read (Ok p) = Ok (p.0.now, option_map (λ x. x.now) p.1)
@@ -35,7 +35,7 @@ archs_read (Err fault) = Err fault
 abbrev pub package_text : Bor (List ℕ) × Option (Bor (List ℕ)) → PackageText
 package_text p = record { source = p.0.now; version = option_map (λ x. x.now) p.1 }
 
--- the value of an option, and the words behind it
+-- the value of an option, and the words after it
 abbrev pub value_read : Result (Bor Word × Bor (List Word)) CommandFault
     → Result (Word × List Word) CommandFault
 value_read (Ok p) = Ok (p.0.now, p.1.now)

@@ -43,7 +43,7 @@ closes q text = on_one_line (cut q text)
 abbrev pub bare_mark : ℕ → Mark
 bare_mark b = if is_space b then gap else plain b
 
--- what each byte of a text is, outside quotes or within this one; nothing behind a quote that isn't
+-- what each byte of a text is, outside quotes or within this one; nothing after a quote that isn't
 -- closed is read
 unfoldable pub marks : Option ℕ → List ℕ → List Mark
 marks None [] = []
@@ -126,6 +126,6 @@ abbrev pub end_with : ℕ → Option ℕ → End
 end_with len None = Closed len
 end_with len (Some place) = Open place
 
--- what stands behind the last word of a line: its end, or a quote that isn't closed
+-- what comes after the last word of a line: its end, or a quote that isn't closed
 abbrev pub end_of : List ℕ → End
 end_of line = end_with (length line) (open_at 0 (marks None line))

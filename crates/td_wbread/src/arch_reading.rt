@@ -88,7 +88,7 @@ fn check_archs(archs: &Archs<'_>, words: &[Word]) -> Result<(), CommandFault>
     }
 }
 
-/// The words that name architectures, up to a dot or the end, and those behind the dot, if it is
+/// The words that name architectures, up to a dot or the end, and those after the dot, if it is
 /// there.
 pub fn read_archs<'w>(
     archs: &Archs<'_>,

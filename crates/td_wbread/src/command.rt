@@ -36,7 +36,7 @@ pub struct Command<'a> {
     pub archs: Vec<&'a str>,
     /// The message of a rebuild or the relation to wait for; empty where there is none.
     pub message: Line,
-    /// What a rebuild needs beside its build dependencies; empty where there is none.
+    /// What a rebuild needs in addition to its build dependencies; empty if nothing.
     pub extra: Line,
     ghost found: { FindsPackages packages.items places } by { FindsPackages-prop packages.items
         places },

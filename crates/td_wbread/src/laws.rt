@@ -16,43 +16,43 @@ pub fn quoted_words_are_read()
     ensures { QuotedWordsAreRead }
 {}
 
-/// A line has these words, each at its place, and this end exactly where it is written so: pieces
+/// A line has these words, each at its place, and this end if and only if it is written so: pieces
 /// without quotes or between two of them that touch, and whitespace between words.
 pub fn words_are_exact()
     ensures { WordsAreExact }
 {}
 
-/// Words are read as packages exactly where each is one, and a dot stands behind them.
+/// Words are read as packages if and only if each is one, and a dot comes after them.
 pub fn packages_are_exact()
     ensures { PackagesAreExact }
 {}
 
-/// Words are read as architectures exactly where the first chooses, each further one chooses or
-/// takes away, and the end or a dot stands behind them.
+/// Words are read as architectures if and only if the first chooses, each further one chooses or
+/// takes away, and the end or a dot comes after them.
 pub fn archs_are_exact()
     ensures { ArchsAreExact }
 {}
 
-/// An architecture is chosen exactly where some word chooses it, and none behind that takes it
+/// An architecture is chosen if and only if some word chooses it, and none after that takes it
 /// away.
 pub fn choice_is_exact()
     ensures { ChoiceIsExact }
 {}
 
-/// What follows the architectures is read exactly where it is the end, a last dot, a suite, a suite
-/// and options, or options, with no quote left open, and where `dw` has its relation; and means
+/// What follows the architectures is read if and only if it is the end, a last dot, a suite, a
+/// suite and options, or options, with no quote left open, and `dw` has its relation; and means
 /// these.
 pub fn tails_are_exact()
     ensures { TailsAreExact }
 {}
 
-/// A verb is read exactly where it stands with its own words, and means these: `gb`; `nmu`, or
-/// `nmu` and a number behind which another word or an open quote comes; `bp` and a priority; `dw`.
+/// A verb is read if and only if it stands with its own words, and means these: `gb`; `nmu`, or
+/// `nmu` and a number after which another word or an open quote comes; `bp` and a priority; `dw`.
 pub fn verbs_are_exact()
     ensures { VerbsAreExact }
 {}
 
-/// The head of a line is refused with a fault exactly where that is what is wrong first: with the
+/// The head of a line is refused with a fault if and only if that is what is wrong first: with the
 /// verb or its number; with the packages or their dot; or with the architectures.
 pub fn head_faults_are_exact()
     ensures verbs { VerbFaultsAreExact }
@@ -61,8 +61,8 @@ pub fn head_faults_are_exact()
     ensures heads { HeadFaultsAreExact }
 {}
 
-/// A line is refused with a fault exactly where that is what is wrong first, at its place: with the
-/// head of its words, or with what follows the architectures.
+/// A line is refused with a fault if and only if that is what is wrong first, at its place: with
+/// the head of its words, or with what follows the architectures.
 pub fn command_faults_are_exact()
     ensures tails { TailFaultsAreExact }
     ensures commands { CommandFaultsAreExact }

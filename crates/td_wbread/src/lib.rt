@@ -2,11 +2,10 @@
 //!
 //! Start at `read_command`; `Command::is_named`, `is_matched` and `is_bare` say which rows a
 //! command names, and with which versions, `kind_of` what it does to them. A caller matches on
-//! `&command.verb`.
-//! `specs/WordLaws.antt` says what the words of a line are, quoted as in a shell,
+//! `&command.verb`. `specs/WordLaws.antt` says what the words of a line are, quoted as in a shell,
 //! `specs/Command.antt` which words are a command, and what is wrong first with others, and
 //! `specs/Naming.antt` which rows are named. Quotes have no escapes, and don't go over lines.
-//! Promised: a line is read exactly where it is a command, as that command, else the first fault
+//! Promised: a line is read if and only if it is a command, as that command, else the first fault
 //! from the left is named, with its place.
 #![tactic(auto)]
 

@@ -162,7 +162,7 @@ fn with_value<'w>(flag: Flag, seen: &Options<'w>, value: &'w Word) -> Options<'w
     }
 }
 
-/// With the value of an option, which is a relation where it has to be one.
+/// The options seen with the value of one more, which is a relation if it has to be one.
 fn read_value<'w>(
     alloc: Global,
     verb: &Verb,
@@ -226,7 +226,7 @@ fn read_options<'w>(
     ensures ok { IfOk result
         (λ more. options_at verb.now end no_values words.now ≡ Ok (values_of more)) }
     ensures err { IfErr result (λ e. IsFaultOf (options_at verb.now end no_values words.now) e) }
-    // Without an option whose value is a relation no memory is wanted.
+    // Without an option whose value is a relation no memory is taken.
     ensures certain { list_any (asks_relation verb.now) words.now ≡ false
         → IfErr result (λ e. e ≢ CommandFault.NoMemory) }
 {
@@ -250,7 +250,7 @@ fn read_suite_end<'w>(
 ) -> Result<Options<'w>, CommandFault>
     ensures ok { IfOk result (λ more. suite_end verb.now end words.now ≡ Ok (values_of more)) }
     ensures err { IfErr result (λ e. IsFaultOf (suite_end verb.now end words.now) e) }
-    // Without an option whose value is a relation no memory is wanted.
+    // Without an option whose value is a relation no memory is taken.
     ensures certain { list_any (asks_relation verb.now) words.now ≡ false
         → IfErr result (λ e. e ≢ CommandFault.NoMemory) }
 {
@@ -278,7 +278,7 @@ fn is_suite(suites: &[&str], name: &str) -> bool
     has_suite(suites, name)
 }
 
-/// What follows the dot behind the architectures: nothing, options, or a suite.
+/// What follows the dot after the architectures: nothing, options, or a suite.
 fn read_dot_end<'w>(
     alloc: Global,
     verb: &Verb,
@@ -290,7 +290,7 @@ fn read_dot_end<'w>(
         dot_end verb.now (map (λ s. s.now) suites.now) end words.now ≡ Ok (values_of more)) }
     ensures err { IfErr result
         (λ e. IsFaultOf (dot_end verb.now (map (λ s. s.now) suites.now) end words.now) e) }
-    // Without an option whose value is a relation no memory is wanted.
+    // Without an option whose value is a relation no memory is taken.
     ensures certain { list_any (asks_relation verb.now) words.now ≡ false
         → IfErr result (λ e. e ≢ CommandFault.NoMemory) }
 {
@@ -320,7 +320,7 @@ pub fn read_tail<'w>(
         (option_map (λ x. x.now) behind.entry) ≡ Ok (values_of more)) }
     ensures err { IfErr result (λ e. IsFaultOf (tail_at verb.now (map (λ s. s.now) suites.now) end
         (option_map (λ x. x.now) behind.entry)) e) }
-    // Without an option whose value is a relation no memory is wanted.
+    // Without an option whose value is a relation no memory is taken.
     ensures certain { IfSome behind.entry
         (λ words. list_any (asks_relation verb.now) words.now ≡ false)
         → IfErr result (λ e. e ≢ CommandFault.NoMemory) }

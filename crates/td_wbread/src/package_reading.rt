@@ -1,4 +1,4 @@
-//! The packages of a command line, and the dot behind them.
+//! The packages of a command line, and the dot after them.
 ghost use Rattle.std.specs.Prelude.{◌≡◌, ◌<◌, IfSome, length, not, option_map, position};
 ghost use Rattle.std.specs.List.{find};
 ghost use Rattle.td_version.specs.Reading.{parts_read, reading};
@@ -19,7 +19,7 @@ fn dot_place(words: &[Word]) -> Option<usize>
     words.iter().position(|w| w.is_dot())
 }
 
-/// The words before the first dot, and those behind it, where there is one.
+/// The words before the first dot, and those after it, if there is one.
 pub fn split_at_dot(words: &[Word]) -> (&[Word], Option<&[Word]>)
     ensures before { result.0.now ≡ before_dot words.now }
     ensures behind { option_map (λ x. x.now) result.1 ≡ behind_dot words.now }
@@ -101,7 +101,7 @@ fn check_packages(words: &[Word]) -> Result<(), CommandFault>
     }
 }
 
-/// The words that name packages, up to the dot, and those behind it.
+/// The words that name packages, up to the dot, and those after it.
 pub fn read_packages(end: End, words: &[Word]) -> Result<(&[Word], &[Word]), CommandFault>
     ensures { packages_read result ≡ packages_at end words.now }
 {

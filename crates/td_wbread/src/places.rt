@@ -25,7 +25,7 @@ impl Places {
         }
     }
 
-    /// Adds a place behind those of its source.
+    /// Adds a place after those of its source.
     fn push(&mut self, alloc: Global, source: &str, place: usize) -> Result<(), AllocError>
         ensures { OnOk result
             ((q : List ℕ)

@@ -19,7 +19,7 @@ use crate::word::{End, Word};
 use std::alloc::Global;
 use td_relation::Archs;
 
-/// The words at the head of a command line by what they are, and those behind them.
+/// The words at the head of a command line by what they are, and those after them.
 #[derive(Clone, Copy)]
 struct HeadWords<'w> {
     verb: Verb,
@@ -106,7 +106,7 @@ fn read_from<'a>(
     }
 }
 
-/// Reads a command line; `suites` are the names that may stand behind the architectures.
+/// Reads a command line; `suites` are the names that may follow the architectures.
 /// `command_faults_are_exact` says which fault is the first, and `places_lie_within` where it lies.
 pub fn read_command<'a>(
     alloc: Global,
@@ -121,7 +121,7 @@ pub fn read_command<'a>(
     ensures only { (p : CommandParts) →
         command_at (table archs.now) (map (λ s. s.now) suites.now) line.now ≡ Ok p →
         MatchResult result (λ c. parts_of c ≡ p) (λ e. e ≡ CommandFault.NoMemory) }
-    // A fault is the line's first, or want of memory.
+    // A fault is the line's first, or memory ran out.
     ensures fault { IfErr result
         (λ e. IsFaultOf (command_at (table archs.now) (map (λ s. s.now) suites.now) line.now) e) }
     // A line with a fault is refused by the first, unless memory runs out.

@@ -41,7 +41,7 @@ fn take_word(alloc: Global, text: &str) -> Result<Front<'_>, AllocError>
     }
 }
 
-/// The words of a line, and what stands behind the last of them.
+/// The words of a line, and what comes after the last of them.
 pub fn read_words(alloc: Global, line: &str) -> Result<(Vec<Word>, End), AllocError>
     ensures words { IfOk result (λ r. r.0.items ≡ words_of line.now) }
     ensures end { IfOk result (λ r. r.1 ≡ end_of line.now) }

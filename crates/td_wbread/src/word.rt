@@ -1,4 +1,4 @@
-//! A word of a line, and what stands behind the last one.
+//! A word of a line, and what comes after the last one.
 use crate::fault::{CommandFault, LineFault};
 use td_rows::Line;
 
@@ -12,7 +12,7 @@ pub struct Word {
     pub place: usize,
 }
 
-/// What stands behind the last word of a line.
+/// What comes after the last word of a line.
 #[derive(Clone, Copy)]
 pub enum End {
     /// Nothing: the line ends at this place.

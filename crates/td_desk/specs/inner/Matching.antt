@@ -1,4 +1,4 @@
--- Whether two receipts are equal, as the code tells it. This project's own.
+-- Whether two receipts are equal, as the code finds it. This project's own.
 use Rattle.std.specs.Prelude.{ℕ, Bool, true, false, List, [], ◌∷◌, ◌==◌, ◌&&◌, Option, Some, None}
 use Rattle.std.specs.Prelude.{if◌then◌else◌}
 use Rattle.std.specs.Ordering.{int_eq}

@@ -1,5 +1,5 @@
--- The numbers of the binary packages by the names of their sources, in four maps, of which a name's
--- length tells the one that has it. This project's own.
+-- The numbers of the binary packages by the names of their sources, in four maps; a name's length
+-- says which map has it. This project's own.
 use Rattle.std.specs.Prelude.{◌≡◌, ℕ, ◌%◌, ◌==◌, List, length, if◌then◌else◌}
 use Rattle.td_supply.specs.declared.numbers.Numbers.{Numbers}
 use Rattle.td_supply.specs.Numbers.{numbers_of}

@@ -20,11 +20,12 @@ abbrev pub AreStanzasRead : IndexFile → List (List ℕ) → Result (List (List
 AreStanzasRead file lines read =
     MatchResult read (λ list. AreStanzas list lines) (StanzaFaultOf file lines)
 
--- the fault is that of the first stanza that can't be kept, or want of memory
+-- the fault is that of the first stanza that can't be kept, or that memory ran out
 abbrev pub IsOfStanza : {A : Type 0} → Result A ArchiveFault → ArchiveFault → Type 0
 IsOfStanza read fault = IsFaultOf read fault × (is_entry fault ≡ true)
 
--- the lines are these stanzas, and what is kept of them is kept of those of Packages ..
+-- the lines of Packages are these stanzas, and what is kept of them, or the fault, is that of the
+-- stanzas
 pub record ArePackages (table : List ArchWords) (lines : List (List ℕ))
     (index : PackagesIndex) : Type 0 where
   pub stanzas : AreStanzas index.stanzas lines
@@ -32,7 +33,8 @@ pub record ArePackages (table : List ArchWords) (lines : List (List ℕ))
       (λ kept. binaries_at table index.stanzas ≡ Ok (binaries_of kept))
       (IsOfStanza (binaries_at table index.stanzas))
 
--- .. and of those of Sources
+-- the lines of Sources are these stanzas, and what is kept of them, or the fault, is that of the
+-- stanzas
 pub record AreSources (lines : List (List ℕ)) (index : SourcesIndex) : Type 0 where
   pub stanzas : AreStanzas index.stanzas lines
   pub kept : MatchResult index.kept
@@ -45,6 +47,6 @@ abbrev pub ArePackagesRead : List ArchWords → List (List ℕ) → Result Packa
 ArePackagesRead table lines read =
     MatchResult read (ArePackages table lines) (StanzaFaultOf Packages lines)
 
--- and so was Sources
+-- Sources was read by itself: as such an index, or it has this fault as a control file
 abbrev pub AreSourcesRead : List (List ℕ) → Result SourcesIndex ArchiveFault → Type 0
 AreSourcesRead lines read = MatchResult read (AreSources lines) (StanzaFaultOf Sources lines)

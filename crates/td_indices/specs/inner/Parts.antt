@@ -15,21 +15,21 @@ use Rattle.td_indices.specs.Reading.{binary_step, over_stanzas}
 abbrev pub put_all : List KeptBinary → List KeptBinary → List KeptBinary
 put_all seen packages = fold (put same_package lower_package) seen packages
 
--- what the stanzas from a number on keep, beside what was kept before them
+-- what was kept before, together with what the stanzas from a number on keep
 abbrev pub kept_from : List ArchWords → List (List Entry) → ℕ → List KeptBinary
     → Result (List KeptBinary) ArchiveFault
 kept_from table stanzas number seen =
     over_stanzas (binary_step table) number seen (drop number stanzas)
 
 -- the stanzas from a number up to another stand for these packages: whatever was kept before, the
--- reading goes on behind them as if these had been put to it
+-- reading goes on after them as if these had been put to it
 abbrev pub StandFor : List ArchWords → List (List Entry) → ℕ → ℕ → List (PackageKey × Packaged)
     → Type 0
 StandFor table stanzas from to packages =
     (seen : List KeptBinary) → kept_from table stanzas from seen
     ≡ kept_from table stanzas to (put_all seen (binaries_of packages))
 
--- the first fault of the stanzas from a number on, whatever was kept before, or want of memory
+-- the first fault of the stanzas from a number on, whatever was kept before, or that memory ran out
 abbrev pub IsFaultFrom : List ArchWords → List (List Entry) → ℕ → ArchiveFault → Type 0
 IsFaultFrom table stanzas from fault =
     (seen : List KeptBinary) → IsOfStanza (kept_from table stanzas from seen) fault
@@ -41,11 +41,11 @@ IsPartRead table stanzas from to read =
     MatchResult read (λ packages. StandFor table stanzas from to packages.items)
     (IsFaultFrom table stanzas from)
 
--- the packages of some lists, one list behind the other
+-- the packages of some lists, one list after the other
 abbrev pub packages_in : List (Vec (PackageKey × Packaged)) → List (PackageKey × Packaged)
 packages_in parts = flat_map (λ packages. packages.items) parts
 
--- the same stanzas, read as a list of packages for each part
+-- the stanzas from a number up to another, read as a list of packages for each part
 abbrev pub ArePartsRead : List ArchWords → List (List Entry) → ℕ → ℕ
     → Result (Vec (Vec (PackageKey × Packaged))) ArchiveFault → Type 0
 ArePartsRead table stanzas from to read =

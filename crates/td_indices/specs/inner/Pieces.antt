@@ -9,7 +9,7 @@ abbrev pub all_of : List (List (List Entry)) → List (List Entry)
 all_of [] = []
 all_of (piece ∷ pieces) = piece ++ all_of pieces
 
--- a text as what stands before a newline and behind it, where a separator follows the newline
+-- a text is what comes before a newline and after it, and a separator follows the newline
 pub record IsCutApart (text before behind : List ℕ) : Type 0 where
   pub parts : text ≡ before ++ 10 ∷ behind
   pub apart : BeginsApart (lines_of behind)

@@ -107,7 +107,7 @@ fn rebuilt(alloc: Global, archive: &Archive<'_, '_>, relation: &str) -> Result<S
     }
 }
 
-// The names that a package offers, each behind a space.
+// The names that a package offers, each after a space.
 fn names(alloc: Global, archive: &Archive<'_, '_>, digits: &str) -> Result<String, AllocError> {
     let mut out = String::new(alloc);
     for name in archive.offered_names(number(digits)) {
@@ -193,7 +193,7 @@ fn answer(alloc: Global, archive: &Archive<'_, '_>, asked: &str) -> Result<Strin
     }
 }
 
-/// Asks the archive of these texts each question; behind it stands what is expected.
+/// Asks the archive of these texts each question, after which comes what is expected.
 pub(super) fn are_answered<'x>(
     rt: &(impl Threads + Abort + Sync),
     alloc: Global,

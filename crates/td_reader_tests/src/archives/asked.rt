@@ -1,7 +1,7 @@
 //! What the program asks of indices and a tracker, in several threads: the stanzas of long texts,
 //! which are found while these come, then marks, flags and levels. What no clause says is that all
-//! of it is answered where memory suffices. The archive is that of `statuses`, and behind its five
-//! sources stand 6,000 that ask for nothing. Expected by hand, from the rules in `docs/FORMATS.md`.
+//! of it is answered if memory suffices. The archive is that of `statuses`, and after its five
+//! sources come 6,000 that ask for nothing. Expected by hand, from the rules in `docs/FORMATS.md`.
 
 use super::answers::counts;
 use crate::checks::{is_told, made};
@@ -14,7 +14,7 @@ use td_query::{Marks, Tracker};
 use td_relation::Archs;
 use td_waves::{Level, Waves};
 
-// Puts down the stanzas with these numbers, each behind an empty line. 3,000 of them are more bytes
+// Puts down the stanzas with these numbers, each after an empty line. 3,000 of them are more bytes
 // than are read as one piece.
 fn put_stanzas(out: &mut String, from: usize, to: usize) -> Result<(), AllocError> {
     for number in from..to {
@@ -26,14 +26,14 @@ fn put_stanzas(out: &mut String, from: usize, to: usize) -> Result<(), AllocErro
     Ok(())
 }
 
-// A text with stanzas behind it, up to a number.
+// A text with stanzas after it, up to a number.
 fn lengthened(alloc: Global, text: &str, to: usize) -> Result<String, AllocError> {
     let mut out = String::from_str(alloc, text)?;
     put_stanzas(&mut out, 0, to)?;
     Ok(out)
 }
 
-// What stands behind the first 3,000.
+// The stanzas after the first 3,000.
 fn rest(alloc: Global) -> Result<String, AllocError> {
     let mut out = String::new(alloc);
     put_stanzas(&mut out, 3000, 6000)?;
@@ -130,7 +130,7 @@ fn told_by(
     }
 }
 
-// What is told by the tracker of a text.
+// What the tracker of a text says of the archive.
 fn told(
     rt: &(impl Threads + Sync),
     alloc: Global,
@@ -146,7 +146,7 @@ fn told(
     }
 }
 
-// A tracker, and what is told.
+// A tracker, and what it says of the archive.
 const TOLD: [(&str, &str); 3] = [
     (
         LIBFOO2,

@@ -9,6 +9,6 @@ use Rattle.td_stanza.specs.declared.folded.FoldedName.{FoldedName}
 abbrev pub folded : FoldedName → List ℕ
 folded key = map to_ascii_lowercase key.name.now
 
--- the same name, in whatever case
+-- two names are the same, in whatever case
 abbrev pub same_folded : FoldedName → FoldedName → Bool
 same_folded = on folded (pointwise nat_eq)

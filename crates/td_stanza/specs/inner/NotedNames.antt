@@ -12,7 +12,7 @@ use Rattle.td_stanza.specs.inner.FoldedNames.{same_folded}
 abbrev pub compared : ℕ
 compared = 32
 
--- the names kept are those of the fields behind these, in whatever case
+-- the names kept are those of the fields after the first 32, in whatever case
 abbrev pub AreNoted : Names → List Field → Type 0
 AreNoted names fields = (key : FoldedName) →
     contains same_folded names.further key

@@ -17,8 +17,8 @@ abbrev pub places_of : Places → List ℕ → List ℕ
 places_of places source = option_map_or (λ list. list.items)
     (get_by_text places.by_source source) []
 
--- whatever is asked of packages: some place of a source has one of which it holds exactly where
--- some package of the source is such
+-- whatever is asked of packages: some place of a source has a package of which it holds if and only
+-- if it holds of some package of the source
 abbrev pub FindsPackages : List Package → Places → Type 0
 FindsPackages packages places = (source : List ℕ) (test : Option Package → Bool) →
     list_any (λ place. test (slice_get packages place)) (places_of places source)

@@ -1,4 +1,4 @@
--- By what `read_parts` ends.
+-- What gets less with each call of `read_parts`, so that it ends.
 use Rattle.std.proofs.Common.{◌+◌, ◌*◌}
 use Rattle.td_indices.proofs.part_reading.+parts.Given as goal
 

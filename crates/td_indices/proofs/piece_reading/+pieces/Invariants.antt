@@ -1,4 +1,4 @@
--- By what `read_pieces` ends.
+-- What gets less with each call of `read_pieces`, so that it ends.
 use Rattle.std.proofs.Common.{◌+◌, ◌*◌}
 use Rattle.td_indices.proofs.piece_reading.+pieces.Given as goal
 

@@ -1,4 +1,4 @@
--- `tell`: what is told of the answers and the rows is told of the steps.
+-- `tell`: the text of the answers and the rows is that of the steps.
 use Rattle.std.proofs.Common.{◌≡◌, ◌∷◌, ◌++◌, ◌∙◌, List, Result, Ok, Err, IfOk, map, codes}
 use Rattle.std.proofs.Common.{string_bytes, ap, ap₂}
 use Rattle.std.specs.List.{list_any}

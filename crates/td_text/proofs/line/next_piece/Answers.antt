@@ -1,4 +1,4 @@
--- `next_piece`: the clauses `pieces`, `text` and `piece`, and the cut behind the mark.
+-- `next_piece`: the clauses `pieces`, `text` and `piece`, and the cut after the mark.
 use Rattle.std.proofs.Common.{◌∙◌, ◌+◌, ℕ, ap, sym, subst, drop, take}
 use Rattle.std.specs.Str.{IsCharBoundary}
 use Rattle.td_text.specs.Lines.{pieces_of}

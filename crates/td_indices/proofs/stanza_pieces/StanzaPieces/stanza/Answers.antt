@@ -1,4 +1,4 @@
--- `stanza`: one of the next piece, and the piece behind it.
+-- `stanza`: one of the next piece, and the piece after it.
 use Rattle.std.proofs.Common.{◌≡◌, ℕ, ◌+◌, ◌-◌, ◌<◌, ◌≤◌, ◌∙◌, List, Some, ap, arith, drop}
 use Rattle.std.proofs.Common.{length, refl, slice_get}
 use Rattle.std.proofs.lemmas.Option.{slice_get_read}
