@@ -7,7 +7,7 @@ use Rattle.td_rows.specs.declared.key.Key.{Key}
 use Rattle.td_rows.specs.declared.row.Row.{Row}
 use Rattle.td_rows.specs.declared.kind.Kind.TheVariants.{Arrive, Sweep}
 use Rattle.td_rows.specs.Meaning.{applies}
-use Rattle.td_rows.specs.Table.{row_of}
+use Rattle.td_rows.specs.Table.{Table, row_of}
 use Rattle.td_core.specs.History.{History, rows_of, with_entry}
 use Rattle.td_core.specs.Offers.{freed, supply_now}
 use Rattle.td_book.specs.Desk.{BookModel}
@@ -17,12 +17,15 @@ use Rattle.td_book.specs.declared.arriving.ArriveRefusal.TheVariants.{NoSuchRow,
 use Rattle.td_book.specs.declared.arriving.ArriveRefusal.TheVariants.{NoMemory}
 
 -- why an arrival makes no entry: the key has no row, or an arrival doesn't apply on it
+abbrev pub ArrivalStop : Key → Table → ArriveRefusal → Type 0
+ArrivalStop k t NoSuchRow = row_of t k ≡ None
+ArrivalStop k t (DoesNotApply s) =
+    (row : Row) × (row_of t k ≡ Some row) × (applies Arrive row ≡ false) × (s ≡ row.state)
+ArrivalStop k t NoMemory = ⊥
+
+-- why an arrival makes no entry in a book, by its rows
 abbrev pub ArriveStop : Key → BookModel → ArriveRefusal → Type 0
-ArriveStop k b NoSuchRow = row_of (rows_of b.history) k ≡ None
-ArriveStop k b (DoesNotApply s) =
-    (row : Row) × (row_of (rows_of b.history) k ≡ Some row) × (applies Arrive row ≡ false)
-    × (s ≡ row.state)
-ArriveStop k b NoMemory = ⊥
+ArriveStop k b r = ArrivalStop k (rows_of b.history) r
 
 -- the entry on the key, if its row has been built or uploaded; else, or if memory for that entry
 -- runs out, nothing

@@ -3,19 +3,34 @@ ghost use Rattle.std.specs.Prelude.{◌≡◌, true, Some, IfErr, IfOk};
 ghost use Rattle.td_rows.specs.Meaning.{applies as applies_to};
 ghost use Rattle.td_rows.specs.Table.{row_of};
 ghost use Rattle.td_core.specs.History.{rows_of};
-ghost use Rattle.td_book.specs.Arriving.{ArriveOutcome, ArriveStop, SweepOutcome};
+ghost use Rattle.td_book.specs.Arriving.{ArrivalStop, ArriveOutcome, ArriveStop, SweepOutcome};
 
 use crate::book::{Book, copies};
 use std::alloc::AllocError;
 use td_board::Board;
 use td_journal::{Entry, EntryNo, Keys};
-use td_rows::{Key, Kind, Row, State, applies};
+use td_rows::{Key, Kind, Row, Rows, State, applies};
 
 #[derive(Clone, Copy, Debug, PartialEq, Eq)]
 pub enum ArriveRefusal {
     NoSuchRow,
     DoesNotApply(State),
     NoMemory,
+}
+
+/// The key's row, if an arrival applies on it, or why it doesn't. It takes no memory.
+pub fn arrival_row<'r>(rows: &'r Rows, key: &Key) -> Result<&'r Row, ArriveRefusal>
+    ensures ok { IfOk result (λ row.
+        (row_of rows.now key.now ≡ Some row.now) × (applies_to Kind.Arrive row.now ≡ true)) }
+    ensures err { IfErr result (ArrivalStop key.now rows.now) }
+{
+    let Some(row) = rows.get(key) else {
+        return Err(ArriveRefusal::NoSuchRow);
+    };
+    if !applies(&Kind::Arrive, row) {
+        return Err(ArriveRefusal::DoesNotApply(row.state));
+    }
+    Ok(row)
 }
 
 impl<'a> Book<'a> {
@@ -26,13 +41,7 @@ impl<'a> Book<'a> {
             × (applies_to Kind.Arrive row.now ≡ true)) }
         ensures err { IfErr result (ArriveStop key.now self.now) }
     {
-        let Some(row) = self.inner.books.rows().get(key) else {
-            return Err(ArriveRefusal::NoSuchRow);
-        };
-        if !applies(&Kind::Arrive, row) {
-            return Err(ArriveRefusal::DoesNotApply(row.state));
-        }
-        Ok(row)
+        arrival_row(self.inner.books.rows(), key)
     }
 
     /// The key's build has arrived in the archive.

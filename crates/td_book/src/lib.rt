@@ -29,10 +29,11 @@ mod watch;
 mod watched;
 mod watching;
 
-pub use arriving::ArriveRefusal;
+pub use arriving::{ArriveRefusal, arrival_row};
 pub use book::Book;
 pub use commanding::{CommandRefusal, Taken};
 pub use finishing::FinishRefusal;
 pub use starting::{Job, StartRefusal};
-pub use undoing::UndoRefusal;
+pub use undoing::{UndoRefusal, undo_refusal};
+pub use waiting::sort_ready;
 pub use watching::WatchRefusal;

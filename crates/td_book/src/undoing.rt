@@ -13,7 +13,7 @@ use crate::book::{Book, copies};
 use crate::inner::Inner;
 use std::alloc::{AllocError, Global};
 use td_board::Board;
-use td_journal::{EntryNo, Mark, is_command};
+use td_journal::{EntryNo, Journal, Mark, is_command};
 use td_rows::{Key, cells_of};
 
 /// Why an entry wasn't undone.
@@ -24,6 +24,27 @@ pub enum UndoRefusal {
     AlreadyUndone,
     NoMemory,
     Blocked(EntryNo),
+}
+
+/// Why the undo of an entry of a journal makes no atomic step, if so. It takes no memory.
+pub fn undo_refusal(journal: &Journal, n: EntryNo) -> Option<UndoRefusal>
+    ensures stop { result ≡ undo_stop journal.now.entries n }
+    ensures stands { IfNone result (CanBeUndone journal.now.entries n) }
+    ensures free { IfNone result (blocker journal.now.entries n ≡ None) }
+{
+    let Some(marked) = journal.entry(n) else {
+        return Some(UndoRefusal::NoSuchEntry);
+    };
+    if !is_command(&marked.entry.kind) {
+        return Some(UndoRefusal::NotACommand);
+    }
+    let Mark::Standing = marked.mark else {
+        return Some(UndoRefusal::AlreadyUndone);
+    };
+    match journal.blocker(n) {
+        Some(m) => Some(UndoRefusal::Blocked(m)),
+        None => None,
+    }
 }
 
 impl<'a> Book<'a> {
@@ -44,20 +65,7 @@ impl<'a> Book<'a> {
         ensures stands { IfNone result (CanBeUndone self.now.history.journal n) }
         ensures free { IfNone result (blocker self.now.history.journal n ≡ None) }
     {
-        let journal = self.inner.books.kept().journal();
-        let Some(marked) = journal.entry(n) else {
-            return Some(UndoRefusal::NoSuchEntry);
-        };
-        if !is_command(&marked.entry.kind) {
-            return Some(UndoRefusal::NotACommand);
-        }
-        let Mark::Standing = marked.mark else {
-            return Some(UndoRefusal::AlreadyUndone);
-        };
-        match journal.blocker(n) {
-            Some(m) => Some(UndoRefusal::Blocked(m)),
-            None => None,
-        }
+        undo_refusal(self.inner.books.kept().journal(), n)
     }
 
     /// Undoes a standing command that no later entry blocks, unless a builder won one of its rows.

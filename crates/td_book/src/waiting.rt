@@ -20,8 +20,8 @@ fn priority_of(rows: &Rows, number: usize) -> i16
     }
 }
 
-// Puts first what is to be built first.
-fn sort(rows: &Rows, numbers: &mut Vec<usize>)
+/// Puts first what is to be built first, of the rows with these numbers.
+pub fn sort_ready(rows: &Rows, numbers: &mut Vec<usize>)
     ensures all { IsPermutation numbers.old.items numbers.new.items }
     ensures order { IsSortedBy (is_before rows.now) numbers.new.items }
 {
@@ -43,7 +43,7 @@ impl<'a> Book<'a> {
     {
         let rows = self.inner.books.rows();
         let mut numbers = self.inner.desk.outs(self.alloc)?;
-        sort(rows, &mut numbers);
+        sort_ready(rows, &mut numbers);
         Ok(numbers)
     }
 }

@@ -12,4 +12,4 @@ mod naming;
 mod skips;
 
 pub use naming::{doubts, matched, named};
-pub use skips::{Skip, SkipReason, Skips};
+pub use skips::{Skip, SkipReason, Skips, fits};

@@ -40,8 +40,8 @@ impl Model for Skips {
     ghost view = { λ s. s.skips.items };
 }
 
-// Whether the key has a row and the kind applies on it.
-fn fits(rows: &Rows, kind: &Kind, key: &Key) -> bool
+/// Whether the key has a row and the kind applies on it.
+pub fn fits(rows: &Rows, kind: &Kind, key: &Key) -> bool
     ensures { result ≡ fits_in rows.now kind.now key.now }
 {
     match rows.get(key) {

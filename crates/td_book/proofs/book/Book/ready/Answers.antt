@@ -24,7 +24,8 @@ returns c =
     ∙ ap (λ (m : BookModel). rows_of m.history) c.self.view_is in
     record {
       all = IsPermutation-trans _ found _
-          (subst (λ xs. IsPermutation xs found) outs c.in_ok-numbers.ensures) c.sort.ensures.all;
-      order = subst (λ (u : Table). IsSortedBy (is_before u) c.sort.new.numbers.items) rows
-          c.sort.ensures.order;
+          (subst (λ xs. IsPermutation xs found) outs c.in_ok-numbers.ensures)
+          c.sort_ready.ensures.all;
+      order = subst (λ (u : Table). IsSortedBy (is_before u) c.sort_ready.new.numbers.items) rows
+          c.sort_ready.ensures.order;
     }

@@ -1,9 +1,9 @@
--- `sort`: the clause `order`.
+-- `sort_ready`: the clause `order`.
 use Rattle.std.proofs.Common.{ℕ, ℤ, rules}
 use Rattle.std.proofs.lemmas.Fn.{always_returns_same}
 use Rattle.std.specs.declared.cmp.Reverse.{Reverse}
 use Rattle.td_book.specs.Ready.{priority_of}
-use Rattle.td_book.proofs.waiting.sort.Goals as goal
+use Rattle.td_book.proofs.waiting.sort_ready.Goals as goal
 
 pub returns-clause-order : goal.returns-clause-order
 returns-clause-order c =
