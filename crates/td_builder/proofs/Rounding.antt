@@ -1,5 +1,5 @@
 -- Rows that are asked for, one after the other and round after round.
-use Rattle.std.proofs.Common.{◌≡◌, ◌≢◌, ◌<◌, inl, inr, ℕ, ◌+◌, List, [], ◌∷◌, ◌++◌, refl}
+use Rattle.std.proofs.Common.{◌≡◌, ◌≢◌, ◌<◌, inl, inr, ℕ, zero, suc, ◌+◌, List, [], ◌∷◌, ◌++◌, refl}
 use Rattle.std.proofs.Common.{sym, ap, ◌∙◌, subst, append-nil, append_assoc, take, drop, length}
 use Rattle.std.proofs.Common.{get_or, Option, Some, None, Bool, true, false}
 use Rattle.std.specs.Prelude.{MatchBool}
@@ -16,7 +16,7 @@ use Rattle.td_board.specs.Seats.{BuilderModel}
 use Rattle.td_rows.specs.declared.outcome.Outcome.{Outcome}
 use Rattle.td_book.specs.Deeds.{code_of}
 use Rattle.td_builder.specs.Floors.{IsEarly, IsFinished, IsIdle, IsRefused}
-use Rattle.td_builder.specs.Rounds.{AreAsked, AreRounds, Asks, AsksInRounds, Claims, IsAsked}
+use Rattle.td_builder.specs.Rounds.{AreAsked, Asks, AsksInRounds, Claims, IsAsked, WholeRounds}
 use Rattle.td_builder.specs.Rounds.{claims_in}
 
 -- ---- 1. claims among tries
@@ -159,44 +159,29 @@ asks_all rows xs a b claims = (xs, sym (append-nil xs), claims)
 
 -- ---- 4. rounds
 
-rounds_more : (offers : List ℕ → Type 0) (rounds : List (List ℕ)) (xs ys : List ℕ)
-    → AreRounds offers rounds xs → offers ys → AreRounds offers (rounds ++ ys ∷ []) (xs ++ ys)
-rounds_more offers [] xs ys none may =
-    ([], ap (λ (l : List ℕ). l ++ ys) none ∙ sym (append-nil ys), may, refl)
-rounds_more offers (round ∷ rounds) xs ys (rest, e, offered, more) may = (
-  rest ++ ys,
-  ap (λ (l : List ℕ). l ++ ys) e ∙ append_assoc round rest ys,
-  offered,
-  rounds_more offers rounds rest ys more may,
-)
+module _ (rows : ℕ) (offers : BuilderModel → List ℕ → Type 0) where
+  -- before the first round
+  pub rounds_none : (a b : BuilderModel) → Claims (λ claims. claims ≡ []) a b
+      → AsksInRounds rows offers [] a b
+  rounds_none a b none = (zero, b, none, inl (refl, refl))
 
--- before the first round nothing is left
-pub rounds_none : (rows : ℕ) (offers : List ℕ → Type 0) (a b : BuilderModel)
-    → Claims (λ claims. claims ≡ []) a b → AsksInRounds rows offers [] a b
-rounds_none rows offers a b none = ([], [], refl, ([], refl, none))
+  -- rounds that leave nothing, as whole rounds
+  whole : (a b : BuilderModel) → AsksInRounds rows offers [] a b
+      → (n : ℕ) × WholeRounds rows offers n a b
+  whole a b (n, last, are, inl (none, at)) =
+      (n, subst (λ (s : BuilderModel). WholeRounds rows offers n a s) (sym at) are)
+  whole a b (n, last, are, inr round) = (suc n, (last, are, round))
 
--- a round more, after rounds that left nothing
-pub round_more : (rows : ℕ) (offers : List ℕ → Type 0) (xs left : List ℕ) (a b c : BuilderModel)
-    → AsksInRounds rows offers [] a b → offers xs → Asks rows xs left b c
-    → AsksInRounds rows offers left a c
-round_more rows offers xs left a b c (rounds, offered, are, (before, e, first)) may
-    (asked, f, later) = (
-      rounds ++ xs ∷ [],
-      offered ++ xs,
-      rounds_more offers rounds offered xs are may,
-      (
-        before ++ asked,
-        ap (λ (l : List ℕ). l ++ xs) (e ∙ append-nil before)
-            ∙ (ap (λ (l : List ℕ). before ++ l) f ∙ sym (append_assoc before asked left)),
-        claims_more (AreAsked rows before) (AreAsked rows asked) (AreAsked rows (before ++ asked))
-            (asked_append rows before asked) a b c first later,
-      ),
-    )
+  -- a round more, after rounds that left nothing
+  pub round_more : (xs left : List ℕ) (a b c : BuilderModel) → AsksInRounds rows offers [] a b
+      → offers b xs → Asks rows xs left b c → AsksInRounds rows offers left a c
+  round_more xs left a b c before may asks =
+      let first = whole a b before in
+      (first.0, b, first.1, inr (xs, may, asks))
 
--- if a round leaves nothing, nothing is left of all rounds
-pub round_whole : (rows : ℕ) (offers : List ℕ → Type 0) (xs left : List ℕ) (a b c : BuilderModel)
-    → AsksInRounds rows offers [] a b → offers xs → Asks rows xs left b c → left ≡ []
-    → AsksInRounds rows offers [] a c
-round_whole rows offers xs left a b c before may asks none =
-    subst (λ (l : List ℕ). AsksInRounds rows offers l a c) none
-    (round_more rows offers xs left a b c before may asks)
+  -- if a round leaves nothing, nothing is left of all rounds
+  pub round_whole : (xs left : List ℕ) (a b c : BuilderModel) → AsksInRounds rows offers [] a b
+      → offers b xs → Asks rows xs left b c → left ≡ [] → AsksInRounds rows offers [] a c
+  round_whole xs left a b c before may asks none =
+      subst (λ (l : List ℕ). AsksInRounds rows offers l a c) none
+      (round_more xs left a b c before may asks)

@@ -1,5 +1,5 @@
 -- The rows that a builder asks for, in rounds. This project's own.
-use Rattle.std.specs.Prelude.{◌≡◌, ◌≤◌, ◌⊎◌, ℕ, List, [], ◌∷◌, ◌++◌, Option, Some, None}
+use Rattle.std.specs.Prelude.{◌≡◌, ◌≤◌, ◌⊎◌, ℕ, zero, suc, List, [], ◌∷◌, ◌++◌, Option, Some, None}
 use Rattle.td_board.specs.declared.views.BuilderTry.{BuilderTry}
 use Rattle.td_board.specs.declared.views.BuilderTry.TheVariants.{ClaimWon, ClaimLost}
 use Rattle.td_board.specs.declared.views.BuilderTry.TheVariants.{ReleaseDone, ReleaseEarly}
@@ -41,15 +41,24 @@ abbrev pub Asks : ℕ → List ℕ → List ℕ → BuilderModel → BuilderMode
 Asks rows offered left old new =
     (asked : List ℕ) × (offered ≡ asked ++ left) × Claims (AreAsked rows asked) old new
 
--- rows are offered in these rounds: in each a list that may be offered
-abbrev pub AreRounds : (List ℕ → Type 0) → List (List ℕ) → List ℕ → Type 0
-AreRounds offers [] offered = offered ≡ []
-AreRounds offers (round ∷ rounds) offered =
-    (rest : List ℕ) × (offered ≡ round ++ rest) × offers round × AreRounds offers rounds rest
+-- one round: all that is asked for may be offered to the builder of a seat, as the seat stands, and
+-- all of it is asked for except what is left
+abbrev pub IsRound : ℕ → (BuilderModel → List ℕ → Type 0) → List ℕ → BuilderModel → BuilderModel
+    → Type 0
+IsRound rows offers left old new =
+    (offered : List ℕ) × offers old offered × Asks rows offered left old new
 
--- the rows that a builder asks for are offered to it in rounds, and some of the last one may be
+-- this many rounds, one after the other, that leave nothing, and nothing is asked for besides
+abbrev pub WholeRounds : ℕ → (BuilderModel → List ℕ → Type 0) → ℕ → BuilderModel → BuilderModel
+    → Type 0
+WholeRounds rows offers zero old new = Claims (λ claims. claims ≡ []) old new
+WholeRounds rows offers (suc n) old new =
+    (mid : BuilderModel) × WholeRounds rows offers n old mid × IsRound rows offers [] mid new
+
+-- a builder asks for rows in rounds, each over an offer of its own, and some of the last one may be
 -- left
-abbrev pub AsksInRounds : ℕ → (List ℕ → Type 0) → List ℕ → BuilderModel → BuilderModel → Type 0
+abbrev pub AsksInRounds : ℕ → (BuilderModel → List ℕ → Type 0) → List ℕ → BuilderModel
+    → BuilderModel → Type 0
 AsksInRounds rows offers left old new =
-    (rounds : List (List ℕ)) × (offered : List ℕ) × AreRounds offers rounds offered
-    × Asks rows offered left old new
+    (n : ℕ) × (last : BuilderModel) × WholeRounds rows offers n old last
+    × (((left ≡ []) × (new ≡ last)) ⊎ IsRound rows offers left last new)

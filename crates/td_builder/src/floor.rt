@@ -48,6 +48,9 @@ pub trait Floor {
     /// What it gives a builder to go home with: none goes home without it.
     type Home;
 
+    /// What `ready` gives. Its answer is the numbers of the rows.
+    type Offer: Tells<Vec<usize>>;
+
     /// What `start` gives: it tells the job, or why there is none.
     type Started: Tells<Result<Job, StartRefusal>>;
 
@@ -63,8 +66,8 @@ pub trait Floor {
     /// How many rows the board has.
     ghost rows: { Self → ℕ };
 
-    /// Which numbers `ready` may answer, in which order.
-    ghost offers: { Self → List ℕ → Type 0 };
+    /// Which numbers `ready` may answer to the builder of a seat, as the seat stands, in which order.
+    ghost offers: { Self → BuilderModel → List ℕ → Type 0 };
 
     /// Which jobs `start` may answer to the builder of a seat, as it is.
     ghost jobs: { Self → BuilderModel → JobValue → Type 0 };
@@ -86,9 +89,11 @@ pub trait Floor {
     /// Why a builder stops, by what it was given.
     ghost reason: { Self.Stopped → WorkStopValue };
 
-    /// The numbers of the rows that wait for a builder, in the order in which they are to be tried.
-    fn ready<R: Wait>(&self, rt: &R) -> Result<Vec<usize>, AllocError>
-        ensures offered { IfOk result (λ numbers. offers self.now numbers.items) }
+    /// The numbers of the rows that wait for the builder, in the order in which they are to be
+    /// tried.
+    fn ready<R: Wait>(&self, rt: &R, seat: &BuilderSeat) -> Result<Self::Offer, AllocError>
+        ensures offered { IfOk result (λ ready.
+            offers self.now seat.now (Self.Offer.tells ready).items) }
         ensures err { OnErr result (stopped self.now WorkStop.NoMemory) };
 
     /// Claims a row, as a board does.

@@ -25,7 +25,7 @@ pub fn work<F: Floor, B: Builds, R: Wait>(
     ensures worked { IfOk result (λ done. Worked (F.jobs floor.now) (F.ends floor.now) B.goes_on
         done.0 seat.old builds.old seat.new builds.new) }
     ensures table { seat.new.table ≡ seat.old.table }
-    // All that is offered is asked for, except at the last `u64`.
+    // Rows are asked for offer by offer: all of an offer, except at the last `u64`.
     ensures asked { IfOk result (λ done. (left : List ℕ)
         × AsksInRounds (F.rows floor.now) (F.offers floor.now) left seat.old seat.new
         × (done.0 < 2 ^ 64 - 1 → left ≡ [])) }
@@ -44,9 +44,10 @@ pub fn work<F: Floor, B: Builds, R: Wait>(
         built = 1;
     }
     for _ in rt.forever() {
-        let Ok(ready) = floor.ready(rt) else {
+        let Ok(ready) = floor.ready(rt, seat) else {
             return Err(floor.stop(rt, WorkStop::NoMemory));
         };
+        let ready = ready.answer();
         built += build_each(rt, floor, ready.as_slice(), u64::MAX - built, seat, builds)?;
         if built == u64::MAX {
             return Ok((built, None));

@@ -1,6 +1,6 @@
 -- What a clerk with builders says is what a book of the desk answers, in the words of scripts.
-use Rattle.std.proofs.Common.{◌≡◌, ◌⊎◌, ℕ, Bool, true, false, List, [], ◌∷◌, ◌++◌, Option, Some}
-use Rattle.std.proofs.Common.{None, Result, Ok, Err, inl, inr, refl, sym, ap, ◌∙◌, append-nil}
+use Rattle.std.proofs.Common.{◌≡◌, ℕ, Bool, true, false, List, [], ◌∷◌, ◌++◌, Option, Some}
+use Rattle.std.proofs.Common.{None, Result, Ok, Err, refl, sym, ap, ◌∙◌, append-nil}
 use Rattle.std.proofs.Common.{append_assoc, subst}
 use Rattle.std.specs.declared.alloc.AllocError.{AllocError}
 use Rattle.std.specs.Prelude.{IfOk, MatchOption, OnErr, OnOk, codes, decimal, string_bytes}
@@ -77,10 +77,10 @@ made_said n keys behind before mid now receipt old new one two got = record {
   refusal = refl;
 }
 
--- if memory hasn't run out, there is an answer
-answered : {A B : Type 0} → (A → ⊥) → A ⊎ B → B
-answered other (inl a) = absurd (other a)
-answered other (inr b) = b
+-- what holds of what a value tells holds of the answer that was taken out of it
+pub by_answer : {A : Type 0} (P : A → Type 0) (told answer is : A) → answer ≡ told → answer ≡ is
+    → P told → P is
+by_answer P told answer is taken at h = subst P (sym taken ∙ at) h
 
 -- ---- 2. calls
 
@@ -167,10 +167,12 @@ arrival_made Of k n keys before now old new its got own put = (
       (put ∙ ap (λ (ks : List Key). before ++ entry_made n ks) own) (sym (append-nil now)) got,
 )
 
--- a receipt more takes none of the clerk's parts
-pub parts_with : (r : Receipt) (old new : ClerkModel) → new ≡ with_receipt r old
-    → new.parts ≡ old.parts
-parts_with r old new got = ap (λ (c : ClerkModel). c.parts) got
+-- an arrival takes none of the clerk's parts
+pub parts_arrived : (k : Key) (answer : Result ℕ ArriveRefusal) (old new : ClerkModel)
+    → IfOk answer (λ n. new ≡ with_receipt (arrival_receipt k n) old)
+    → OnErr answer (new ≡ old) → new.parts ≡ old.parts
+parts_arrived k (Ok n) old new ok err = ap (λ (c : ClerkModel). c.parts) ok
+parts_arrived k (Err e) old new ok err = ap (λ (c : ClerkModel). c.parts) err
 
 -- what a clerk says to an arrival that is refused
 pub arrival_refused : (Of : BookModel → Type 0) (k : Key) (e : ArriveRefusal)
@@ -215,11 +217,14 @@ sweep_made Of n b before now old mid new a of got still put =
     )
 
 -- a sweep takes none of the clerk's parts
-pub parts_swept : (swept : Option ℕ) (old new : ClerkModel)
-    → MatchOption swept (new ≡ old) (λ n. new ≡ with_receipt (Swept n) old)
-    → new.parts ≡ old.parts
-parts_swept None old new same = ap (λ (c : ClerkModel). c.parts) same
-parts_swept (Some n) old new got = ap (λ (c : ClerkModel). c.parts) got
+pub parts_swept : (answer : Result (Option ℕ) AllocError) (old new : ClerkModel)
+    → IfOk answer (λ swept. MatchOption swept
+    (new ≡ old)
+    (λ n. new ≡ with_receipt (Swept n) old))
+    → OnErr answer (new ≡ old) → new.parts ≡ old.parts
+parts_swept (Ok None) old new ok err = ap (λ (c : ClerkModel). c.parts) ok
+parts_swept (Ok (Some n)) old new ok err = ap (λ (c : ClerkModel). c.parts) ok
+parts_swept (Err e) old new ok err = ap (λ (c : ClerkModel). c.parts) err
 
 -- what a clerk says to a sweep that finds nothing
 pub sweep_none : (Of : List Receipt → BookModel → Type 0) (before now : List ℕ)
@@ -239,14 +244,12 @@ sweep_none Of before now old new a same put = (
 -- what a clerk says to a command that is entered: the keys are those of its receipt
 pub command_made : (Of : BookModel → Type 0) (c : CommandParts) (t : Taken)
     (keys : List Key) (before mid now : List ℕ) (old new : ClerkModel)
-    → (◌≡◌ {A = Result Taken CommandRefusal} (Ok t) (Err commands.NoMemory)
-    ⊎ Commanding c Of old new (Ok t))
+    → Commanding c Of old new (Ok t)
     → ((front : List Receipt) (n : ℕ) (kind : Kind) (own : List Key)
     → new.receipts ≡ front ++ Made n kind own ∷ [] → keys ≡ own)
     → mid ≡ before ++ entry_made t.number keys → now ≡ mid ++ flat_map skip_line t.skips
     → Says (MayCommand Of c) before now old.receipts new.receipts false
-command_made Of c t keys before mid now old new a own put behind =
-    let its = answered (λ none. let h = none in cc) a in
+command_made Of c t keys before mid now old new its own put behind =
     let kept = without (named_by c its.0) t.skips in
     let same = own old.receipts t.number (kind_of c) kept
     (ap (λ (x : ClerkModel). x.receipts) its.4) in (
@@ -259,31 +262,28 @@ command_made Of c t keys before mid now old new a own put behind =
 
 -- a command takes none of the clerk's parts
 pub parts_commanded : (table : TableId) (origin : Origin) (opened : List Mark) (parts : ℕ)
-    (had : List Receipt) (c : CommandParts) (t : Taken) (old new : ClerkModel)
-    → (◌≡◌ {A = Result Taken CommandRefusal} (Ok t) (Err commands.NoMemory)
-    ⊎ Commanding c (IsMetBy table origin opened parts had) old new (Ok t))
-    → new.parts ≡ old.parts
-parts_commanded table origin opened parts had c t old new a =
-    let its = answered (λ none. let h = none in cc) a in ap (λ (x : ClerkModel). x.parts) its.4
+    (had : List Receipt) (c : CommandParts) (answer : Result Taken CommandRefusal)
+    (old new : ClerkModel) → Commanding c (IsMetBy table origin opened parts had) old new answer
+    → OnErr answer (new ≡ old) → new.parts ≡ old.parts
+parts_commanded table origin opened parts had c (Ok t) old new its err =
+    ap (λ (x : ClerkModel). x.parts) its.4
+parts_commanded table origin opened parts had c (Err e) old new its err =
+    ap (λ (x : ClerkModel). x.parts) err
 
 -- what a clerk says to a command that is refused
 pub command_refused : (Of : BookModel → Type 0) (c : CommandParts) (e : CommandRefusal)
     (before now : List ℕ) (old new : ClerkModel) (refused : Bool)
-    → (◌≡◌ {A = Result Taken CommandRefusal} (Err e) (Err commands.NoMemory)
-    ⊎ Commanding c Of old new (Err e))
-    → new ≡ old → IsCommandRefused e before now refused
+    → Commanding c Of old new (Err e) → new ≡ old → IsCommandRefused e before now refused
     → Says (MayCommand Of c) before now old.receipts new.receipts refused
-command_refused Of c (commands.NothingApplies skips) before now old new refused a same
-    put =
-    let its = answered (λ none. let h = none in cc) a in (
-      declines (codes "NothingApplies") (flat_map skip_line skips),
-      (its.0, its.1, Err (commands.NothingApplies skips), its.2, its.3, refl),
-      record {
-        text_is = put.text_is;
-        receipts_are = ap (λ (x : ClerkModel). x.receipts) same ∙ sym (append-nil old.receipts);
-        refusal = put.refusal;
-      },
-    )
+command_refused Of c (commands.NothingApplies skips) before now old new refused its same put = (
+  declines (codes "NothingApplies") (flat_map skip_line skips),
+  (its.0, its.1, Err (commands.NothingApplies skips), its.2, its.3, refl),
+  record {
+    text_is = put.text_is;
+    receipts_are = ap (λ (x : ClerkModel). x.receipts) same ∙ sym (append-nil old.receipts);
+    refusal = put.refusal;
+  },
+)
 command_refused Of c commands.NoMemory before now old new refused a same put = absurd put
 
 -- what a clerk says to what changes nothing

@@ -53,7 +53,7 @@ pub fn command<N: Named, C: Ledger, R: Wait>(
         (parts_of command.now)) (string_bytes out.old) (string_bytes out.new)
         clerk.old.receipts clerk.new.receipts) }
 {
-    match desk.command(rt, clerk, command) {
+    match desk.command(rt, clerk, command).answer() {
         Ok(taken) => {
             put_taken(out, taken.number, keys_made(clerk))?;
             put_skips(out, taken.skips.as_slice())?;
@@ -80,7 +80,7 @@ fn undo<N: Named, C: Ledger, R: Wait>(
 }
 
 // The answer to an arrival. The receipt says which entry it made.
-#[tactic(auto, using(crate::proofs::Replied::parts_with))]
+#[tactic(auto, using(crate::proofs::Replied::parts_arrived))]
 fn arrive<N: Named, C: Ledger, R: Wait>(
     rt: &R,
     desk: &Desk<'_, N, C>,
@@ -93,7 +93,7 @@ fn arrive<N: Named, C: Ledger, R: Wait>(
         (IsMetBy N.table N.origin N.opened clerk.old.parts clerk.old.receipts) key.now)
         (string_bytes out.old) (string_bytes out.new) clerk.old.receipts clerk.new.receipts) }
 {
-    match desk.arrive(rt, clerk, key) {
+    match desk.arrive(rt, clerk, key).answer() {
         Ok(n) => {
             put_taken(out, n, keys_made(clerk))?;
             Ok(false)
@@ -116,7 +116,7 @@ fn sweep<N: Named, C: Ledger, R: Wait>(
         (IsMetBy N.table N.origin N.opened clerk.old.parts) clerk.old.receipts)
         (string_bytes out.old) (string_bytes out.new) clerk.old.receipts clerk.new.receipts) }
 {
-    match desk.sweep(rt, clerk)? {
+    match desk.sweep(rt, clerk).answer()? {
         Some(n) => {
             let text = desk.look_as(
                 rt,

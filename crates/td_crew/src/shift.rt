@@ -13,7 +13,7 @@ use std::sync::ledger::Ledger;
 use std::sync::{Mutex, Wait};
 use td_board::BuilderSeat;
 use td_builder::{Floor, WorkStop};
-use td_desk::{Desk, Ended, Hired, Home, Homes, Named, Started};
+use td_desk::{Desk, Ended, Hired, Home, Homes, Named, Ready, Started};
 use td_rows::Outcome;
 
 /// A desk as its builders see it. Once a builder has stopped for memory, `ready` says to the others
@@ -50,6 +50,8 @@ impl<'d, 'a, N: Named, C: Ledger> Floor for Shift<'d, 'a, N, C> {
 
     type Home = Home<N>;
 
+    type Offer = Ready<N>;
+
     type Started = Started<N>;
 
     type Ended = Ended<N>;
@@ -60,7 +62,7 @@ impl<'d, 'a, N: Named, C: Ledger> Floor for Shift<'d, 'a, N, C> {
 
     ghost rows = { λ s. s.desk.now.board.rows };
 
-    ghost offers = { λ s. MayBeReady N.table N.origin };
+    ghost offers = { λ s seat. MayBeReady N.table N.origin };
 
     ghost jobs = { λ s. MayStart N.table N.origin };
 
@@ -74,8 +76,8 @@ impl<'d, 'a, N: Named, C: Ledger> Floor for Shift<'d, 'a, N, C> {
 
     ghost reason = { λ stopped. stopped.why };
 
-    fn ready<R: Wait>(&self, rt: &R) -> Result<Vec<usize>, AllocError>
-        ensures offered { IfOk result (λ numbers. MayBeReady N.table N.origin numbers.items) }
+    fn ready<R: Wait>(&self, rt: &R, _seat: &BuilderSeat) -> Result<Ready<N>, AllocError>
+        ensures offered { IfOk result (λ ready. MayBeReady N.table N.origin ready.numbers.items) }
         ensures err { OnErr result (Unit {0}) }
     {
         if self.ends.lock(rt).want_memory() {

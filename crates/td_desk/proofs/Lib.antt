@@ -8,6 +8,6 @@ pub mod Holding
 pub mod Origins
 pub mod Commanding
 pub mod Flooring
-pub mod Commanded
+pub mod CommandAnswers
 pub mod Reopening
 pub mod Undoing

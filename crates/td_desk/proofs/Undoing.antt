@@ -3,7 +3,6 @@ use Rattle.std.proofs.Common.{◌≡◌, ℕ, Option, None, Result, sym, subst}
 use Rattle.td_book.specs.declared.undoing.UndoRefusal.{UndoRefusal}
 use Rattle.td_book.specs.Desk.{BookModel}
 use Rattle.td_book.specs.Undoing.{IsUndone, UndoAnswer, undo_stop}
-use Rattle.td_desk.specs.Calls.{UndoTold}
 
 -- an undo that the marks don't refuse
 pub standing_answer : (n : ℕ) (old new : BookModel) (result : Result (Unit {0}) UndoRefusal)
@@ -11,9 +10,3 @@ pub standing_answer : (n : ℕ) (old new : BookModel) (result : Result (Unit {0}
     → UndoAnswer (undo_stop old.history.journal n) n old new result
 standing_answer n old new result stop is =
     subst (λ (x : Option UndoRefusal). UndoAnswer x n old new result) (sym stop) is
-
--- an answer that equals the desk's is the desk's
-pub told_on : (n : ℕ) (old new : BookModel) (answer told : Result (Unit {0}) UndoRefusal)
-    → told ≡ answer → UndoTold n old new answer → UndoTold n old new told
-told_on n old new answer told same is =
-    subst (λ (r : Result (Unit {0}) UndoRefusal). UndoTold n old new r) (sym same) is

@@ -5,7 +5,7 @@ ghost use Rattle.td_book.specs.Desk.{BookModel};
 ghost use Rattle.td_book.specs.Ready.{is_any_queued};
 ghost use Rattle.td_desk.specs.Calls.{IsOfDesk, MayBeReady, Starting, Finishing};
 
-use crate::answers::{Ended, Started};
+use crate::answers::{Ended, Ready, Started};
 use crate::desk::Desk;
 use crate::home::Home;
 use crate::named::Named;
@@ -18,11 +18,12 @@ use td_rows::Outcome;
 
 impl<'a, N: Named, C: Ledger> Desk<'a, N, C> {
     /// The numbers of the rows that wait for a builder, in the order in which they are to be tried.
-    pub fn ready<R: Wait>(&self, rt: &R) -> Result<Vec<usize>, AllocError>
-        ensures { IfOk result (λ numbers. MayBeReady N.table N.origin numbers.items) }
+    pub fn ready<R: Wait>(&self, rt: &R) -> Result<Ready<N>, AllocError>
+        ensures { IfOk result (λ ready. MayBeReady N.table N.origin ready.numbers.items) }
     {
         let locked = self.locked.lock(rt);
-        locked.book().ready()
+        let numbers = locked.book().ready()?;
+        Ok(Ready::of(&locked, numbers))
     }
 
     /// Starts the build of the row that the builder holds.

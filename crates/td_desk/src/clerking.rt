@@ -1,20 +1,18 @@
 //! The calls of clerks: each under the lock, with its receipt.
-ghost use Rattle.std.specs.Prelude.{◌≡◌, ◌⊎◌, ◌∷◌, [], Err, IfOk, OnOk, OnErr, MatchOption};
+ghost use Rattle.std.specs.Prelude.{◌≡◌, ◌∷◌, [], IfOk, OnOk, OnErr, MatchOption};
 ghost use Rattle.td_wbread.specs.Views.{parts_of};
 ghost use Rattle.td_desk.specs.declared.receipt.Receipt.TheVariants as receipt;
 ghost use Rattle.td_desk.specs.Calls.{Commanding, Undoing, Arriving, Sweeping, IsMetBy};
 ghost use Rattle.td_desk.specs.Calls.{arrival_receipt};
 ghost use Rattle.td_desk.specs.Clerks.{with_receipt};
 
-use crate::answers::Undone;
+use crate::answers::{Arrived, Commanded, Swept, Undone};
 use crate::clerk::Clerk;
 use crate::desk::Desk;
 use crate::named::Named;
-use std::alloc::AllocError;
 use std::snapshot::Snapshot;
 use std::sync::Wait;
 use std::sync::ledger::Ledger;
-use td_book::{ArriveRefusal, CommandRefusal, Taken};
 use td_journal::EntryNo;
 use td_rows::Key;
 use td_wbread::Command;
@@ -23,30 +21,32 @@ impl<'a, N: Named, C: Ledger> Desk<'a, N, C> {
     /// A command by a clerk. The receipt has the rows that the command names, without those that
     /// the answer skips. If the clerk has all parts, the book that answers has as many changes as
     /// the clerk has receipts, here and at its other calls.
-    pub fn command<R: Wait>(
+    pub fn command<'c, R: Wait>(
         &self,
         rt: &R,
         clerk: &mut Clerk<C>,
-        command: &Command<'_>,
-    ) -> Result<Taken, CommandRefusal>
-        ensures answer { (result ≡ Err CommandRefusal.NoMemory)
-            ⊎ Commanding (parts_of command.now)
+        command: &Command<'c>,
+    ) -> Commanded<'c, N>
+        ensures answer { Commanding (parts_of command.now)
             (IsMetBy N.table N.origin N.opened clerk.old.parts clerk.old.receipts)
-            clerk.old clerk.new result }
-        ensures err { OnErr result (clerk.new ≡ clerk.old) }
+            clerk.old clerk.new result.answer }
+        ensures err { OnErr result.answer (clerk.new ≡ clerk.old) }
+        ensures command { result.command.value ≡ command.now }
     {
-        if clerk.receipts.reserve(1).is_err() {
-            return Err(CommandRefusal::NoMemory);
-        }
-        let answer = self.locked.lock_as(rt, &mut clerk.share).command(
+        let _ = clerk.receipts.reserve(1);
+        let mut locked = self.locked.lock_as(rt, &mut clerk.share);
+        let before = Snapshot::of(locked.book());
+        let answer = locked.command(
             self.alloc,
             &self.board,
             &mut clerk.share,
             &mut clerk.receipts,
             command,
         );
+        let commanded = Commanded::of(before, &locked, command, answer);
+        drop(locked);
         self.locked.wake();
-        answer
+        commanded
     }
 
     /// An undo by a clerk. Room for its receipt is made before the lock is taken. A lack of room is
@@ -70,49 +70,40 @@ impl<'a, N: Named, C: Ledger> Desk<'a, N, C> {
 
     /// An arrival by a clerk. Room for its receipt is made before the lock is taken. A lack of room
     /// is answered after the row was asked for.
-    pub fn arrive<R: Wait>(
-        &self,
-        rt: &R,
-        clerk: &mut Clerk<C>,
-        key: &Key,
-    ) -> Result<EntryNo, ArriveRefusal>
-        ensures ok { IfOk result (λ n.
+    pub fn arrive<R: Wait>(&self, rt: &R, clerk: &mut Clerk<C>, key: &Key) -> Arrived<N>
+        ensures ok { IfOk result.answer (λ n.
             clerk.new ≡ with_receipt (arrival_receipt key.now n) clerk.old) }
-        ensures err { OnErr result (clerk.new ≡ clerk.old) }
+        ensures err { OnErr result.answer (clerk.new ≡ clerk.old) }
         ensures answer { Arriving key.now
-            (IsMetBy N.table N.origin N.opened clerk.old.parts clerk.old.receipts) result }
+            (IsMetBy N.table N.origin N.opened clerk.old.parts clerk.old.receipts) result.answer }
+        ensures key { result.key.value ≡ key.now }
     {
         let _ = clerk.receipts.reserve(1);
-        let answer = self
-            .locked
-            .lock_as(rt, &mut clerk.share)
-            .arrive(&mut clerk.share, &mut clerk.receipts, key, self.alloc);
+        let mut locked = self.locked.lock_as(rt, &mut clerk.share);
+        let before = Snapshot::of(locked.book());
+        let answer = locked.arrive(&mut clerk.share, &mut clerk.receipts, key, self.alloc);
+        let arrived = Arrived::of(before, &locked, key, answer);
+        drop(locked);
         self.locked.wake();
-        answer
+        arrived
     }
 
     /// A sweep by a clerk. One that finds nothing leaves no receipt.
-    pub fn sweep<R: Wait>(
-        &self,
-        rt: &R,
-        clerk: &mut Clerk<C>,
-    ) -> Result<Option<EntryNo>, AllocError>
-        ensures ok { IfOk result (λ swept. MatchOption swept
+    pub fn sweep<R: Wait>(&self, rt: &R, clerk: &mut Clerk<C>) -> Swept<N>
+        ensures ok { IfOk result.answer (λ swept. MatchOption swept
             (clerk.new ≡ clerk.old)
             (λ n. clerk.new ≡ with_receipt (receipt.Swept n) clerk.old)) }
-        ensures err { OnErr result (clerk.new ≡ clerk.old) }
-        ensures answer { OnOk result (Sweeping
-            (IsMetBy N.table N.origin N.opened clerk.old.parts clerk.old.receipts) result) }
+        ensures err { OnErr result.answer (clerk.new ≡ clerk.old) }
+        ensures answer { Sweeping
+            (IsMetBy N.table N.origin N.opened clerk.old.parts clerk.old.receipts) result.answer }
     {
-        clerk.receipts.reserve(1)?;
-        let swept = self
-            .locked
-            .lock_as(rt, &mut clerk.share)
-            .sweep(&self.board, &mut clerk.share, &mut clerk.receipts)?;
-        let Some(n) = swept else {
-            return Ok(None);
-        };
+        let _ = clerk.receipts.reserve(1);
+        let mut locked = self.locked.lock_as(rt, &mut clerk.share);
+        let before = Snapshot::of(locked.book());
+        let answer = locked.sweep(&self.board, &mut clerk.share, &mut clerk.receipts);
+        let swept = Swept::of(before, &locked, answer);
+        drop(locked);
         self.locked.wake();
-        Ok(Some(n))
+        swept
     }
 }

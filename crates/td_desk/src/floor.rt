@@ -7,7 +7,7 @@ ghost use Rattle.td_builder.specs.Floors.{IsHolding, IsFinished, IsRefused};
 ghost use Rattle.td_desk.specs.Calls.{IsOfDesk, Starting, Finishing, MayStart, MayBeReady};
 ghost use Rattle.td_desk.specs.Calls.{IsAtEnd, MayEnd, MayBreakOff};
 
-use crate::answers::{Ended, Started};
+use crate::answers::{Ended, Ready, Started};
 use crate::desk::Desk;
 use crate::home::Home;
 use crate::named::Named;
@@ -23,6 +23,8 @@ impl<'a, N: Named, C: Ledger> Floor for Desk<'a, N, C> {
 
     type Home = Home<N>;
 
+    type Offer = Ready<N>;
+
     type Started = Started<N>;
 
     type Ended = Ended<N>;
@@ -33,7 +35,7 @@ impl<'a, N: Named, C: Ledger> Floor for Desk<'a, N, C> {
 
     ghost rows = { λ d. d.board.rows };
 
-    ghost offers = { λ d. MayBeReady N.table N.origin };
+    ghost offers = { λ d seat. MayBeReady N.table N.origin };
 
     ghost jobs = { λ d. MayStart N.table N.origin };
 
@@ -47,8 +49,8 @@ impl<'a, N: Named, C: Ledger> Floor for Desk<'a, N, C> {
 
     ghost reason = { λ why. why };
 
-    fn ready<R: Wait>(&self, rt: &R) -> Result<Vec<usize>, AllocError>
-        ensures offered { IfOk result (λ numbers. MayBeReady N.table N.origin numbers.items) }
+    fn ready<R: Wait>(&self, rt: &R, _seat: &BuilderSeat) -> Result<Ready<N>, AllocError>
+        ensures offered { IfOk result (λ ready. MayBeReady N.table N.origin ready.numbers.items) }
         ensures err { OnErr result (Unit {0}) }
     {
         Desk::ready(self, rt)

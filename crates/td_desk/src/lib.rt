@@ -29,7 +29,7 @@ mod receipt;
 mod tick;
 mod told;
 
-pub use answers::{Ended, Started, Undone};
+pub use answers::{Arrived, Commanded, Ended, Ready, Started, Swept, Undone};
 pub use clerk::Clerk;
 pub use closing::Differ;
 pub use desk::{Desk, PARTS};

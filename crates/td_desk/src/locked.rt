@@ -1,5 +1,5 @@
 //! What lies under the lock of a desk.
-ghost use Rattle.std.specs.Prelude.{◌≡◌, ◌||◌, ◌<◌, length, vec_len, vec_capacity, not};
+ghost use Rattle.std.specs.Prelude.{◌≡◌, ◌||◌, ◌<◌, length, vec_capacity, not};
 ghost use Rattle.std.specs.Prelude.{true, false, OnOk, OnErr, OnSome, IfOk, MatchOption, is_none};
 ghost use Rattle.td_book.specs.Arriving.{ArriveOutcome, SweepOutcome};
 ghost use Rattle.td_book.specs.Building.{StartOutcome};
@@ -130,7 +130,7 @@ impl<'a, N: Named, C: Ledger> Locked<'a, N, C> {
         Some(Home::of(self))
     }
 
-    /// A command, with its receipt, for which there is room.
+    /// A command, with its receipt. If the receipt has no room, memory is missing.
     pub(crate) fn command(
         &mut self,
         alloc: Global,
@@ -141,7 +141,6 @@ impl<'a, N: Named, C: Ledger> Locked<'a, N, C> {
     ) -> Result<Taken, CommandRefusal>
         requires board { board.now.table ≡ N.table }
         requires part { 0 < mine.old.parts }
-        requires room { vec_len receipts.old < vec_capacity receipts.old }
         ensures told { IfOk result (λ taken. IsTold
             (command_receipt (parts_of command.now) self.old.book taken)
             receipts.old.items receipts.new.items mine.old.amount mine.new.amount
@@ -155,6 +154,9 @@ impl<'a, N: Named, C: Ledger> Locked<'a, N, C> {
         ensures answer { IsDone (parts_of command.now) self.old.book self.new.book result }
     {
         let _of_desk = self.book();
+        if !has_room(receipts) {
+            return Err(CommandRefusal::NoMemory);
+        }
         let Locked {
             book,
             ledger,
@@ -259,7 +261,7 @@ impl<'a, N: Named, C: Ledger> Locked<'a, N, C> {
         Ok(n)
     }
 
-    /// A sweep, with its receipt, for which there is room.
+    /// A sweep, with its receipt. If the receipt has no room, memory is missing.
     pub(crate) fn sweep(
         &mut self,
         board: &Board,
@@ -268,7 +270,6 @@ impl<'a, N: Named, C: Ledger> Locked<'a, N, C> {
     ) -> Result<Option<EntryNo>, AllocError>
         requires board { board.now.table ≡ N.table }
         requires part { 0 < mine.old.parts }
-        requires room { vec_len receipts.old < vec_capacity receipts.old }
         ensures told { IfOk result (λ swept. MatchOption swept
             (IsUntold receipts.old.items receipts.new.items mine.old.amount mine.new.amount)
             (λ n. IsTold (receipt.Swept n)
@@ -283,6 +284,9 @@ impl<'a, N: Named, C: Ledger> Locked<'a, N, C> {
         ensures answer { SweepOutcome self.old.book self.new.book result }
     {
         let _of_desk = self.book();
+        if !has_room(receipts) {
+            return Err(AllocError);
+        }
         let Locked {
             book,
             ledger,

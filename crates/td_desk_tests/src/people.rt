@@ -25,7 +25,7 @@ pub(crate) fn command<N: Named, C: Ledger, R: Wait>(
 ) -> Result<Result<Taken, CommandRefusal>, CommandFault> {
     match read_command(alloc, line, archs, &["unstable"]) {
         Ok(command) => {
-            let told = desk.command(rt, clerk, &command);
+            let told = desk.command(rt, clerk, &command).answer();
             drop(command);
             Ok(told)
         }

@@ -11,7 +11,7 @@ use crate::spelling::{
 };
 use crate::tries::{CHANGED, Tries, lacks_memory};
 use crate::turns::work_in_turn;
-use std::alloc::Global;
+use std::alloc::{AllocError, Global};
 use std::sync::Wait;
 use std::sync::ledger::Ledger;
 use std::test::Fail;
@@ -43,7 +43,7 @@ fn arrive<N: Named, C: Ledger, R: Wait>(
     text: &str,
 ) -> Result<String, Fail> {
     let key = key(alloc, text)?;
-    shown(alloc, &desk.arrive(rt, clerk, &key))
+    shown(alloc, &desk.arrive(rt, clerk, &key).answer())
 }
 
 // The answer to a clerk's call.
@@ -58,7 +58,7 @@ fn call<N: Named, C: Ledger, R: Wait>(
     match word {
         "undo" => shown(alloc, &desk.undo(rt, clerk, number(rest)).answer()),
         "arrive" => arrive(rt, alloc, desk, clerk, rest),
-        "sweep" => shown(alloc, &desk.sweep(rt, clerk)),
+        "sweep" => shown(alloc, &desk.sweep(rt, clerk).answer()),
         _ => take(rt, alloc, desk, clerk, line),
     }
 }
@@ -127,6 +127,14 @@ fn key_at<N: Named, C: Ledger>(
     Ok(String::from_str(alloc, name)?)
 }
 
+// The numbers of the rows that wait for a builder.
+fn ready<N: Named, C: Ledger, R: Wait>(
+    rt: &R,
+    desk: &Desk<'static, N, C>,
+) -> Result<Vec<usize>, AllocError> {
+    Ok(desk.ready(rt)?.answer())
+}
+
 // The answer to a line that asks something, or that is a call of the first clerk.
 fn ask<N: Named, C: Ledger, R: Wait>(
     rt: &R,
@@ -142,7 +150,7 @@ fn ask<N: Named, C: Ledger, R: Wait>(
         "row" => row(rt, alloc, desk, rest),
         "entry" => entry(rt, alloc, desk, number(rest)),
         "journal" => journal(rt, alloc, desk),
-        "ready" => shown(alloc, &desk.ready(rt)),
+        "ready" => shown(alloc, &ready(rt, desk)),
         _ => call_by(rt, desk, people, 0, line),
     }
 }

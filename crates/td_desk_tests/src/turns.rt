@@ -14,7 +14,7 @@ use std::test::Fail;
 use td_board::BuilderSeat;
 use td_book::{FinishRefusal, Job};
 use td_builder::{Builds, Floor, Outcomes, Tells, WorkStop, work};
-use td_desk::{Clerk, Desk, Hired, Home, Homes, Named, Started};
+use td_desk::{Clerk, Desk, Hired, Home, Homes, Named, Ready, Started};
 use td_journal::EntryNo;
 use td_relation::Archs;
 use td_rows::{Key, Outcome, read_key};
@@ -44,7 +44,7 @@ fn arrive<N: Named, C: Ledger, R: Wait>(
 ) -> Option<EntryNo> {
     let (source, arch) = read_key(text)?;
     let key = Key::new(alloc, source, arch).ok()?;
-    desk.arrive(rt, clerk, &key).ok()
+    desk.arrive(rt, clerk, &key).answer().ok()
 }
 
 // The entry that a clerk undoes.
@@ -72,7 +72,7 @@ fn call<N: Named, C: Ledger, R: Wait>(
     match word {
         "undo" => undo(rt, desk, clerk, number(rest)),
         "arrive" => arrive(rt, alloc, desk, clerk, rest),
-        "sweep" => desk.sweep(rt, clerk).ok()?,
+        "sweep" => desk.sweep(rt, clerk).answer().ok()?,
         _ => take(rt, alloc, desk, clerk, line),
     }
 }
@@ -199,6 +199,8 @@ impl<'d, 't, N: Named, C: Ledger> Floor for Turns<'d, 't, N, C> {
 
     type Home = Home<N>;
 
+    type Offer = Ready<N>;
+
     type Started = Started<N>;
 
     type Ended = TurnsEnd;
@@ -209,7 +211,7 @@ impl<'d, 't, N: Named, C: Ledger> Floor for Turns<'d, 't, N, C> {
 
     ghost rows = { λ turns. turns.desk.now.board.rows };
 
-    ghost offers = { λ turns. MayBeReady N.table N.origin };
+    ghost offers = { λ turns seat. MayBeReady N.table N.origin };
 
     ghost jobs = { λ turns. MayStart N.table N.origin };
 
@@ -223,8 +225,8 @@ impl<'d, 't, N: Named, C: Ledger> Floor for Turns<'d, 't, N, C> {
 
     ghost reason = { λ why. why };
 
-    fn ready<R: Wait>(&self, rt: &R) -> Result<Vec<usize>, AllocError>
-        ensures offered { IfOk result (λ numbers. MayBeReady N.table N.origin numbers.items) }
+    fn ready<R: Wait>(&self, rt: &R, _seat: &BuilderSeat) -> Result<Ready<N>, AllocError>
+        ensures offered { IfOk result (λ ready. MayBeReady N.table N.origin ready.numbers.items) }
         ensures err { OnErr result (Unit {0}) }
     {
         self.desk.ready(rt)

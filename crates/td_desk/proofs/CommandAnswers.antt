@@ -1,11 +1,10 @@
 -- What the calls of a clerk answer over the locked book, with the clerk's receipts.
-use Rattle.std.proofs.Common.{◌≡◌, ◌⊎◌, inr, ℕ, List, length, Result, Err, ap, sym, ◌∙◌}
+use Rattle.std.proofs.Common.{◌≡◌, ℕ, List, length, Result, ap, subst, sym, ◌∙◌}
 use Rattle.std.specs.Prelude.{IfOk}
 use Rattle.atomic_table.specs.Seated.{TableId}
 use Rattle.td_journal.specs.declared.entry.Mark.{Mark}
 use Rattle.td_wbread.specs.Command.{CommandParts}
 use Rattle.td_book.specs.declared.commanding.CommandRefusal.{CommandRefusal}
-use Rattle.td_book.specs.declared.commanding.CommandRefusal.TheVariants as commands
 use Rattle.td_book.specs.declared.commanding.Taken.{Taken}
 use Rattle.td_book.specs.Commands.{IsDone}
 use Rattle.td_book.specs.Desk.{BookModel}
@@ -32,8 +31,21 @@ met table origin opened clerk book locked share amount all parts receipts of is 
           ∙ ap (λ (b : BookModel). length (changes opened b)) (sym is);
     }
 
+-- what holds of an answer holds of what is told as it
+pub told_as : {A : Type 0} (P : A → Type 0) (answer told : A) → told ≡ answer → P answer → P told
+told_as P answer told same is = subst P (sym same) is
+
 pub commanded : (c : CommandParts) (Met : BookModel → Type 0) (clerk after : ClerkModel)
-    (r : Result Taken CommandRefusal) (old new : BookModel) → Met old → IsDone c old new r
-    → IfOk r (λ t. after ≡ with_receipt (command_receipt c old t) clerk)
-    → (r ≡ Err commands.NoMemory) ⊎ Commanding c Met clerk after r
-commanded c Met clerk after r old new of is told = inr (old, new, of, is, told)
+    (answer told : Result Taken CommandRefusal) (old new : BookModel) → told ≡ answer → Met old
+    → IsDone c old new answer
+    → IfOk answer (λ t. after ≡ with_receipt (command_receipt c old t) clerk)
+    → Commanding c Met clerk after told
+commanded c Met clerk after answer told old new same of is got =
+    told_as (Commanding c Met clerk after) answer told same (old, new, of, is, got)
+
+-- what a command does to a book it does to an equal one, and leaves an equal one
+pub done_as : (c : CommandParts) (r : Result Taken CommandRefusal) (a b x y : BookModel) → b ≡ a
+    → y ≡ x → IsDone c a x r → IsDone c b y r
+done_as c r a b x y same after is =
+    subst (λ (s : BookModel). IsDone c s y r) (sym same)
+    (subst (λ (s : BookModel). IsDone c a s r) (sym after) is)
