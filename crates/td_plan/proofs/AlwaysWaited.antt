@@ -58,7 +58,7 @@ some-or (Some x) q h = refl
 
 -- ---- a due row has a number above 0
 
-all-at : {A : Type 0} (test : A → Bool) (xs : List A) (x : A) → list_all test xs ≡ true
+pub all-at : {A : Type 0} (test : A → Bool) (xs : List A) (x : A) → list_all test xs ≡ true
     → Contains xs x → test x ≡ true
 all-at test [] x h has = let low = has.1 in absurd (omega arith)
 all-at test (y ∷ ys) x h has =
@@ -68,7 +68,7 @@ all-at test (y ∷ ys) x h has =
       | inr more ↦ all-at test ys x both.1 more
     ]
 
-row-number : (o : Option Row) (row : Row) (rest : List ℕ) → o ≡ Some row
+pub row-number : (o : Option Row) (row : Row) (rest : List ℕ) → o ≡ Some row
     → Contains (number_if o ++ rest) row.number
 row-number o row rest e =
     subst (λ (l : List ℕ). Contains (l ++ rest) row.number) (sym (ap number_if e))
@@ -129,7 +129,7 @@ told p s t place low None h = absurd (let bad : false ≡ true = h in cc)
 told p s t place low (Some b) h =
     written-some t b (arrival_base t b) (arrival_number p t place) low
 
-present-some : (p : Premises) (s t : KeptSource) (place : ℕ) → is_due p t place ≡ true
+pub present-some : (p : Premises) (s t : KeptSource) (place : ℕ) → is_due p t place ≡ true
     → is_some (present_package p.archive s t place) ≡ true
 present-some p s t place due =
     let ready = (and_parts (has_number p t) (is_ready p t place) due).1 in

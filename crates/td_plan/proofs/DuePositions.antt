@@ -104,7 +104,7 @@ places-any lt f test h n (x ∷ xs) =
 -- ---- 2. positions
 
 -- one of two sources with different names always has the earlier line
-weaker-any : (x : Placing) (ss : List KeptSource) → AnyWay is_source_before ss
+pub weaker-any : (x : Placing) (ss : List KeptSource) → AnyWay is_source_before ss
     → AnyWay (is_place_before x) ss
 weaker-any x [] way = tt
 weaker-any x (s ∷ ss) way = (

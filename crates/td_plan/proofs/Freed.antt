@@ -123,7 +123,8 @@ or-cases (Some x) q b h = inl h
 
 -- ---- the package that is waited for
 
-home-is : (home : Option ℕ) (place : ℕ) → same_home home (Some place) ≡ true → home ≡ Some place
+pub home-is : (home : Option ℕ) (place : ℕ) → same_home home (Some place) ≡ true
+    → home ≡ Some place
 home-is None place h = absurd (let bad : false ≡ true = h in cc)
 home-is (Some there) place h = ap (λ (k : ℕ). Some k) (eqb-true there place h)
 
@@ -136,7 +137,8 @@ pub record IsWaitedFor (p : Premises) (t : KeptSource) (place : ℕ) (w : Wait) 
   pub name : w.name ≡ binary.head.name
   pub parts : w.parts ≡ with_rebuild (arrival_base t binary) (arrival_number p t place)
 
-written-is : (t : KeptSource) (b : KeptBinary) (base : Parts) (number : ℕ) (older : Bool) (w : Wait)
+pub written-is : (t : KeptSource) (b : KeptBinary) (base : Parts) (number : ℕ) (older : Bool)
+    (w : Wait)
     → wait_for t b base number older ≡ Some w
     → (w.name ≡ b.head.name) × (w.parts ≡ with_rebuild base number)
 written-is t b base number older w h =
@@ -181,11 +183,10 @@ module _ (p : Premises) (s t : KeptSource) (place : ℕ) (w : Wait) where
       let both = and_parts _ _ r.1 in
       by_package b true r.0 both.0 (and_parts _ _ both.1).0 h
 
-  by_present : (o : Option KeptBinary) → present_package p.archive s t place ≡ o
-      → wait_with p s t place o ≡ Some w → IsWaitedFor p t place w
-  by_present None e h = by_own (own_package p.archive s t place) refl h
-  by_present (Some b) e h =
-      let present : Contains p.archive.binaries b × (is_present t place b ≡ true) =
+  -- a present package is one of the archive's
+  pub present-has : (b : KeptBinary) → present_package p.archive s t place ≡ Some b
+      → Contains p.archive.binaries b × (is_present t place b ≡ true)
+  present-has b e =
       elim (or-cases (first_where package_name (λ (c : KeptBinary). is_present t place c
       && asks_active p.archive s place (names_offer c)) p.archive.binaries)
       (first_where package_name (is_present t place) p.archive.binaries) b e) [
@@ -194,7 +195,13 @@ module _ (p : Premises) (s t : KeptSource) (place : ℕ) (w : Wait) where
             && asks_active p.archive s place (names_offer c)) p.archive.binaries b named in
             (r.0, (and_parts _ _ r.1).0)
         | inr any ↦ first-has package_name (is_present t place) p.archive.binaries b any
-      ] in
+      ]
+
+  by_present : (o : Option KeptBinary) → present_package p.archive s t place ≡ o
+      → wait_with p s t place o ≡ Some w → IsWaitedFor p t place w
+  by_present None e h = by_own (own_package p.archive s t place) refl h
+  by_present (Some b) e h =
+      let present = present-has b e in
       let both = and_parts _ _ present.1 in
       by_package b false present.0 both.0 (and_parts _ _ both.1).0 h
 
@@ -203,7 +210,8 @@ module _ (p : Premises) (s t : KeptSource) (place : ℕ) (w : Wait) where
 
 -- ---- what has arrived
 
-there-at : {A : Type 0} (xs : List A) (k : ℕ) → k < length xs → (x : A) × (slice_get xs k ≡ Some x)
+pub there-at : {A : Type 0} (xs : List A) (k : ℕ) → k < length xs
+    → (x : A) × (slice_get xs k ≡ Some x)
 there-at [] k low = absurd (omega arith)
 there-at (x ∷ xs) zero low = (x, refl)
 there-at (x ∷ xs) (suc k) low = there-at xs k (omega arith)
@@ -217,7 +225,7 @@ module _ (a : Contents) (t : KeptSource) (b : KeptBinary) where
       ap (build_of b.head.source b.head.parts b.head.source_parts)
       (ap (source_named a) (sym same) ∙ named)
 
-  built-is : (place : ℕ) (arch : List ℕ) → source_named a t.head.name ≡ Some t
+  pub built-is : (place : ℕ) (arch : List ℕ) → source_named a t.head.name ≡ Some t
       → is_of t.head.name b ≡ true → b.head.home ≡ Some place → place_of a.table arch ≡ Some place
       → is_built_by a.table t.head.name arch (own_offer a.sources b) ≡ true
   built-is place arch named own home at = and_from _ _
@@ -226,7 +234,7 @@ module _ (a : Contents) (t : KeptSource) (b : KeptBinary) where
       (ap (λ (o : Option ℕ). option_map_or (λ (k : ℕ). is_place k (place_of a.table arch)) o false)
       home ∙ ap (is_place place) at ∙ eq-eqb place place refl)
 
-  rebuild-is : (number : ℕ) → source_named a t.head.name ≡ Some t → is_of t.head.name b ≡ true
+  pub rebuild-is : (number : ℕ) → source_named a t.head.name ≡ Some t → is_of t.head.name b ≡ true
       → rebuild_of number (own_offer a.sources b)
       ≡ Some (with_rebuild (arrival_base t b) number)
   rebuild-is number named own = ap (λ (o : Option Built).

@@ -49,7 +49,11 @@ pub mod Somewhere
 pub mod Downward
 pub mod ToldOnce
 pub mod Freed
+pub mod ReadWaits
 pub mod AlwaysWaited
+pub mod Held
+pub mod OwnNumbers
+pub mod NewVersions
 pub mod Askings
 pub mod AskedFor
 pub mod Owners
@@ -80,3 +84,9 @@ pub mod SoundArchives
 pub mod AffectedRows
 pub mod MoverNumbers
 pub mod PlanLines
+pub mod Played
+pub mod PlayedWaits
+pub mod PlayedSources
+pub mod TakenWhole
+pub mod PlayedBack
+pub mod ReadVersions

@@ -42,7 +42,8 @@ use Rattle.td_plan.specs.Relations.{relation_of}
 use Rattle.td_plan.specs.Waits.{Wait, awaited, is_waitless}
 use Rattle.td_plan.proofs.PlanArchs.{archs_of_table, kept_of_rest, kept_places}
 use Rattle.td_plan.proofs.PlanNumbers.{number_some, number_within}
-use Rattle.td_plan.proofs.PlanWaits.{all_in_order, from_contains, waits_can}
+use Rattle.td_plan.proofs.PlanWaits.{all_in_order, from_contains, readable_packages}
+use Rattle.td_plan.proofs.PlanWaits.{readable_sources, waits_can}
 use Rattle.td_plan.proofs.ReadLines.{dw_lines_are_read, nmu_lines_are_read}
 use Rattle.td_plan.proofs.SaidRelations.{relations_are_read}
 
@@ -245,7 +246,8 @@ module _ (words : Words) (p : Premises) (x : Placing) (suites : List (List ℕ))
         ∙ append-nil (filter_map said (dw_lines words p s [] (all_waiting x p s)))
         ∙ dw_said [] (all_waiting x p s) refl
         (waits_so (waiting_at x p s) (due_places p s)
-        (λ place. waits_can words p sound y (is_beside x s) s place)))
+        (λ place. waits_can p sound (readable_packages words p y) (readable_sources words p y)
+        (is_beside x s) s place)))
       where
         first : Read
         first = read_of (command_with (Nmu (Some (number_of p s))) s

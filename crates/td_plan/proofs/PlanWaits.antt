@@ -98,15 +98,27 @@ module _ {A : Type 0} (P : A → Type 0) where
 -- ---- 2. a wait
 
 -- a package whose name is a name, and whose version is a version
-record IsPackage (b : KeptBinary) : Type 0 where
-  name : is_name b.head.name ≡ true
-  version : IsVersion b.head.version b.head.parts
+pub record IsPackage (b : KeptBinary) : Type 0 where
+  pub name : is_name b.head.name ≡ true
+  pub version : IsVersion b.head.version b.head.parts
 
 -- a source whose version is a version
-abbrev IsSourceVersion : KeptSource → Type 0
+abbrev pub IsSourceVersion : KeptSource → Type 0
 IsSourceVersion t = IsVersion t.head.version t.head.parts
 
-module _ (words : Words) (p : Premises) (sound : AreSound p) (y : AreReadable words p) where
+-- the packages and sources of premises that are readable
+pub readable_packages : (words : Words) (p : Premises) → AreReadable words p
+    → AllByRecursion IsPackage p.archive.binaries
+readable_packages words p y = from_contains IsPackage p.archive.binaries
+    (λ b h. record { name = y.binary b h; version = y.binary_version b h })
+
+pub readable_sources : (words : Words) (p : Premises) → AreReadable words p
+    → AllByRecursion IsSourceVersion p.archive.sources
+readable_sources words p y =
+    from_contains IsSourceVersion p.archive.sources (λ s h. y.version s h)
+
+module _ (p : Premises) (sound : AreSound p) (packages : AllByRecursion IsPackage p.archive.binaries)
+    (sources : AllByRecursion IsSourceVersion p.archive.sources) where
   number_within : (t : KeptSource) (place : ℕ) → arrival_number p t place ≤ 9999
   number_within t place = by (is_due p t place) refl
     where
@@ -153,13 +165,6 @@ module _ (words : Words) (p : Premises) (sound : AreSound p) (y : AreReadable wo
       → MatchOption (wait_if t number older o) (Unit {0}) CanBeWritten
   if_can t number older None small v h = tt
   if_can t number older (Some b) small v h = wait_can t b number older small v h
-
-  packages : AllByRecursion IsPackage p.archive.binaries
-  packages = from_contains IsPackage p.archive.binaries
-      (λ b h. record { name = y.binary b h; version = y.binary_version b h })
-
-  sources : AllByRecursion IsSourceVersion p.archive.sources
-  sources = from_contains IsSourceVersion p.archive.sources (λ s h. y.version s h)
 
   either_can : (a b : Option KeptBinary) → MatchOption a (Unit {0}) IsPackage
       → MatchOption b (Unit {0}) IsPackage → MatchOption (option_or a b) (Unit {0}) IsPackage

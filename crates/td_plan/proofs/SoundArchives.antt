@@ -70,7 +70,7 @@ module _ (a : Contents) (read : WasRead a) where
       let both = (package_keys b c).0 is in
       (package_keys c b).1 (sym both.0, sym both.1)
 
-  one-package : (b c : KeptBinary) → Contains a.binaries b → Contains a.binaries c
+  pub one-package : (b c : KeptBinary) → Contains a.binaries b → Contains a.binaries c
       → same_package b c ≡ true → b ≡ c
   one-package b c left right is =
       one-key same_package package-itself package-back a.binaries b c packages-apart left right is

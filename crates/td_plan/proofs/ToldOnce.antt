@@ -90,7 +90,7 @@ rebuilds_are_of_due_sources words p x = (
 
 -- ---- what a source is named
 
-named-kept : (p : Premises) (name : List ℕ) (s : KeptSource) → source_named p.archive name ≡ Some s
+pub named-kept : (p : Premises) (name : List ℕ) (s : KeptSource) → source_named p.archive name ≡ Some s
     → Contains p.archive.sources s × (name ≡ s.head.name)
 named-kept p name s h =
     let r = find-has (λ (t : KeptSource). bytes_eq name t.head.name) p.archive.sources s h in
@@ -98,7 +98,7 @@ named-kept p name s h =
 
 -- ---- the name of an architecture, and its place
 
-arch-named : (table : List ArchWords) (name : List ℕ) (place : ℕ)
+pub arch-named : (table : List ArchWords) (name : List ℕ) (place : ℕ)
     → place_of table name ≡ Some place → (place < length table) × (arch_at table place ≡ name)
 arch-named [] name place h = absurd (let bad : None ≡ Some place = h in cc)
 arch-named (a ∷ table) name place h =
@@ -118,7 +118,7 @@ place-named (a ∷ table) place apart low =
     (option_map_or (λ (w : ArchWords). w.name) o [])) at
     ∙ place_own (a ∷ table) place _ apart at
 
-place-within : (n place : ℕ) → Contains (range_with_len 0 n) place → place < n
+pub place-within : (n place : ℕ) → Contains (range_with_len 0 n) place → place < n
 place-within n place h =
     let low = h.1 in
     let long = length-range_with_len 0 n in

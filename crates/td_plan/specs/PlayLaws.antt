@@ -8,6 +8,8 @@ use Rattle.td_relation.specs.Table.{place_of}
 use Rattle.td_rows.specs.declared.key.Key.{Key}
 use Rattle.td_rows.specs.declared.row.Row.{Row}
 use Rattle.td_rows.specs.declared.state.State.TheVariants.{DepWait, NeedsBuild}
+use Rattle.td_rows.specs.GivenBack.{given_back}
+use Rattle.td_rows.specs.Kinds.{written}
 use Rattle.td_rows.specs.Table.{AppliesOn, Table, applied, keys_of, row_of}
 use Rattle.td_indices.specs.Archive.{source_named}
 use Rattle.td_indices.specs.Sources.{KeptSource}
@@ -97,8 +99,7 @@ abbrev pub planned : Placing → Premises → Key → Row → Row
 planned x p k row = option_map_or (λ s. option_map_or (λ place. planned_at x p s place row)
     (place_of p.archive.table k.arch) row) (source_named p.archive k.source) row
 
--- each source's version is that of how it is written, as in each archive that was read: a line
--- names
+-- each source's version is that of how it is written, as in each archive that was read: a line names
 -- it so, and a row whose version is another would be skipped
 abbrev pub VersionsAreRead : Premises → Type 0
 VersionsAreRead p = (s : KeptSource) → Contains p.archive.sources s
@@ -111,3 +112,21 @@ PlansAreTakenWhole = (words : Words) (p : Premises) (x : Placing) → AreSound p
     → VersionsAreRead p → IsPlacing p x
     → (new : Table) × ArePlayed p (plan_commands words x p) p.rows new
     × ((k : Key) → row_of new k ≡ option_map (planned x p k) (row_of p.rows k))
+
+-- ---- 4. the undo of a plan
+
+-- the rows after the undo of a command, which was given to earlier rows: those that it named get
+-- back, in the cells that it wrote, what they had
+abbrev pub undone : CommandParts → Table → Table → Table
+undone c was now = given_back (written (kind_of c)) (named_in c was) was now
+
+-- the rows after the undo of commands from the last to the first
+abbrev pub all_undone : List CommandParts → Table → Table → Table
+all_undone [] was now = now
+all_undone (c ∷ commands) was now = undone c was (all_undone commands (rows_after c was) now)
+
+-- the undo of all commands of a plan, from the last to the first, gives every row back
+abbrev pub PlansAreUndone : Type 0
+PlansAreUndone = (words : Words) (p : Premises) (x : Placing) (new : Table) → AreSound p
+    → ArePlayed p (plan_commands words x p) p.rows new
+    → all_undone (plan_commands words x p) p.rows new ≡ p.rows

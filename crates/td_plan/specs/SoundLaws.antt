@@ -14,6 +14,7 @@ use Rattle.td_indices.specs.Sources.{KeptSource}
 use Rattle.td_query.specs.Statuses.{is_affected}
 use Rattle.td_plan.specs.Lines.{Words}
 use Rattle.td_plan.specs.Plan.{IsPlan}
+use Rattle.td_plan.specs.PlayLaws.{VersionsAreRead}
 use Rattle.td_plan.specs.Premises.{AreSound, PackagesAreApart, Premises}
 
 -- ---- 1. premises of which a plan can be made
@@ -51,6 +52,10 @@ ReplacedRowsCanBePlanned = (p : Premises) (opened given : Table) (lines : List (
 abbrev pub ChosenRowsCanBePlanned : Type 0
 ChosenRowsCanBePlanned = (p : Premises) (sources : List KeptSource) → WasRead p.archive
     → AreOpenedOf p.archive sources p.rows → CanBePlanned p
+
+-- in an archive that was read, each source's version is that of how it is written
+abbrev pub VersionsOfArchivesAreRead : Type 0
+VersionsOfArchivesAreRead = (p : Premises) → WasRead p.archive → VersionsAreRead p
 
 -- ---- 2. the rows that are enough
 

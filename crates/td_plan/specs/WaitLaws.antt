@@ -1,5 +1,6 @@
 -- When a row that waits is freed. This project's own.
-use Rattle.std.specs.Prelude.{◌≡◌, ℕ, ◌<◌, true, IsTrue, List, [], ◌∷◌, Some, None, Ok, length, map}
+use Rattle.std.specs.Prelude.{◌≡◌, ◌⊎◌, ℕ, ◌<◌, true, IsTrue, List, [], ◌∷◌, Some, None, Ok}
+use Rattle.std.specs.Prelude.{length, map}
 use Rattle.std.specs.List.{Contains}
 use Rattle.std.specs.Ordering.{is_ge}
 use Rattle.td_version.specs.Order.{version_cmp}
@@ -8,9 +9,11 @@ use Rattle.td_relation.specs.Asked.{Asked}
 use Rattle.td_relation.specs.Meeting.{is_on}
 use Rattle.td_relation.specs.RelationGrammar.{relation_at}
 use Rattle.td_relation.specs.RelationWriting.{alternative_asked}
-use Rattle.td_supply.specs.Supplied.{Item, Supplied, is_built_by}
+use Rattle.td_supply.specs.Supplied.{Item, Supplied, is_built_by, rebuild_of}
 use Rattle.td_supply.specs.Supply.{SupplyView, arrived, meets, opened, stock_of}
 use Rattle.td_indices.specs.Archive.{IsArchive, source_named}
+use Rattle.td_indices.specs.Kept.{KeptBinary}
+use Rattle.td_indices.specs.OfferLaws.{IsProvidedBy}
 use Rattle.td_indices.specs.Sources.{KeptSource}
 use Rattle.td_indices.specs.Supplying.{supply_of}
 use Rattle.td_plan.specs.Due.{arrival_number, is_due}
@@ -18,6 +21,7 @@ use Rattle.td_plan.specs.Placing.{IsPlacing, Placing}
 use Rattle.td_plan.specs.Plan.{is_beside}
 use Rattle.td_plan.specs.Premises.{AreSound, PackagesAreApart, Premises, arch_at}
 use Rattle.td_plan.specs.Relations.{member_of, relation_of}
+use Rattle.td_plan.specs.SoundLaws.{WasRead}
 use Rattle.td_plan.specs.Waits.{Wait, awaited, is_waitless, wait_of, waits_of}
 
 -- ---- 1. what is on offer
@@ -43,11 +47,12 @@ abbrev pub HasArrived : Premises → SupplyView → KeptSource → ℕ → ℕ �
 HasArrived p v t place number =
     arrived v t.head.name (arch_at p.archive.table place) number ≡ v
 
--- a row hasn't arrived: none of its packages there is offered by another version than the index's
-abbrev pub HasNotArrived : Premises → SupplyView → KeptSource → ℕ → Type 0
-HasNotArrived p v t place = (i : Item) → Contains v.items i
+-- a row hasn't arrived under a number: each of its packages there is offered in the index's
+-- version, or as a rebuild with a lower number
+abbrev pub HasNotArrived : Premises → SupplyView → KeptSource → ℕ → ℕ → Type 0
+HasNotArrived p v t place number = (i : Item) → Contains v.items i
     → IsTrue (is_built_by p.archive.table t.head.name (arch_at p.archive.table place) i.offer)
-    → i.rebuilt ≡ None
+    → (i.rebuilt ≡ None) ⊎ ((m : ℕ) × (m < number) × (i.rebuilt ≡ rebuild_of m i.offer))
 
 -- ---- 2. what rows wait for
 
@@ -87,6 +92,18 @@ RowsAreReleased = (p : Premises) (x : Placing) (s : KeptSource) (place : ℕ) (v
     → meets v (relation_of (waits_of (is_beside x s) p s place)) (arch_at p.archive.table place)
     ≡ true
 
+-- over an archive that was read, the relation of a planned row that waits for something is met once
+-- each source for which the row waits has arrived there
+abbrev pub ReadRowsAreReleased : Type 0
+ReadRowsAreReleased = (p : Premises) (x : Placing) (s : KeptSource) (place : ℕ) (v : SupplyView)
+    (packages sources : List (List ℕ)) → IsPlanned p x s place
+    → IsArchive p.archive.table packages sources p.archive
+    → 0 < length (waits_of (is_beside x s) p s place) → stock_of v ≡ supply_of p.archive
+    → ((t : KeptSource) → Contains (awaited (is_beside x s) p s place) t
+    → HasArrived p v t place (arrival_number p t place))
+    → meets v (relation_of (waits_of (is_beside x s) p s place)) (arch_at p.archive.table place)
+    ≡ true
+
 -- the index itself offers what is waited for: the name, there or on `all`, in the version or a
 -- later one
 pub record IsInIndex (p : Premises) (place : ℕ) (w : Wait) : Type 0 where
@@ -103,9 +120,18 @@ abbrev pub RowsAreHeld : Type 0
 RowsAreHeld = (p : Premises) (x : Placing) (s t : KeptSource) (place : ℕ) (v : SupplyView)
     (w : Wait) → IsPlanned p x s place → PackagesAreApart p → IsOnOffer p v
     → Contains (awaited (is_beside x s) p s place) t → wait_of p s place t ≡ Some w
-    → HasNotArrived p v t place → IsReadAgain (waits_of (is_beside x s) p s place)
+    → HasNotArrived p v t place (arrival_number p t place)
+    → IsReadAgain (waits_of (is_beside x s) p s place)
     → meets v (relation_of (waits_of (is_beside x s) p s place)) (arch_at p.archive.table place)
     ≡ true → IsInIndex p place w
+
+-- if the awaited row is due, the index offers that only as a package of `all`, or as a name that a
+-- package provides: the awaited package itself is in the index in a lower version
+abbrev pub DueVersionsAreNew : Type 0
+DueVersionsAreNew = (p : Premises) (x : Placing) (s t : KeptSource) (place : ℕ) (w : Wait)
+    → WasRead p.archive → IsPlanned p x t place → wait_of p s place t ≡ Some w
+    → (i : IsInIndex p place w) → (i.offer.arch ≡ None)
+    ⊎ ((b : KeptBinary) × Contains p.archive.binaries b × IsProvidedBy b i.offer)
 
 -- for a source whose row there is due, a row can always be told to wait
 abbrev pub DueRowsAreWaitedFor : Type 0

@@ -45,11 +45,14 @@ pub use part_laws::{
 pub use parts::{Parts, parts_of};
 pub use plan::Plan;
 pub use plan_laws::{
-    due_rows_are_waited_for, rebuilds_are_of_due_sources, rows_are_released, rows_are_told_once,
-    sources_build_somewhere, waits_lead_down,
+    due_rows_are_waited_for, plans_are_taken_whole, plans_are_undone, rebuilds_are_of_due_sources,
+    rows_are_held, rows_are_released, rows_are_told_once, sources_build_somewhere,
+    waits_are_read_again, waits_lead_down,
 };
 pub use row_laws::{
     due_rows_are_exact, left_rows_are_explained, numbers_are_least, numbers_run_out_over_rows,
 };
-pub use sound_laws::{affected_rows_are_enough, read_archives_can_be_planned};
+pub use sound_laws::{
+    affected_rows_are_enough, read_archives_can_be_planned, versions_of_archives_are_read,
+};
 pub use words::{WordFault, Words};
