@@ -25,16 +25,18 @@ use Rattle.std.proofs.lemmas.Map.Text.{is_eq-slice_cmp}
 use Rattle.std.proofs.lemmas.Option.{get_or_from_slice_get, slice_get-get_or, slice_get_cases}
 use Rattle.std.proofs.lemmas.Option.{slice_get_within}
 use Rattle.td_text.proofs.SameTexts.{bytes_eq-swap}
-use Rattle.td_indices.specs.Archive.{number_named}
+use Rattle.td_indices.specs.Archive.{Contents, number_named}
 use Rattle.td_indices.specs.Sources.{KeptSource}
 use Rattle.td_query.specs.Statuses.{affected_names, is_affected}
+use Rattle.td_query.specs.Tracking.{Tracking}
 use Rattle.td_plan.specs.declared.movers.Mover.{Mover}
 use Rattle.td_plan.specs.InOrder.{is_before}
-use Rattle.td_plan.specs.Premises.{AreSound, Premises, name_of}
+use Rattle.td_plan.specs.Premises.{AreSound, Premises, SourcesAreApart, name_of}
 use Rattle.td_plan.specs.inner.Inputs.{kept_source}
-use Rattle.td_plan.specs.inner.Movers.{AreMovers, AreNamed, IsAffectedName, IsMover, mover_name}
+use Rattle.td_plan.specs.inner.Movers.{AreAllOf, AreMovers, AreNamed, AreNamedOf}
+use Rattle.td_plan.specs.inner.Movers.{IsAffectedName, IsMover, IsNameAffected, mover_name}
 use Rattle.td_plan.proofs.Chosen.{filter-again, filter-found, map-again, map-found}
-use Rattle.td_plan.proofs.Named.{one-named, placed-at}
+use Rattle.td_plan.proofs.Named.{one-of-name, placed-at}
 
 -- ---- 1. texts in order
 
@@ -85,104 +87,114 @@ sorted-texts xs up = λ k d low high.
 
 -- ---- 2. the names of the affected sources
 
-module _ (p : Premises) (sound : AreSound p) where
+module _ (a : Contents) (t : Tracking) (apart : SourcesAreApart a) where
   abbrev affected : KeptSource → Bool
-  affected s = is_affected p.archive p.tracker s
+  affected s = is_affected a t s
 
   abbrev IsApart : KeptSource → KeptSource → Type 0
-  IsApart s t = bytes_eq t.head.name s.head.name ≡ false
+  IsApart s u = bytes_eq u.head.name s.head.name ≡ false
 
-  sources-apart : AllPairs IsApart p.archive.sources
+  sources-apart : AllPairs IsApart a.sources
   sources-apart = λ i j d lt within.
-      let sources = p.archive.sources in
-      let t : KeptSource = get_or sources j d in
-      (position-Some (λ (u : KeptSource). bytes_eq t.head.name u.head.name) sources j d
-      (sound.numbered j t (slice_get-get_or sources j d within))).2 i lt
+      let sources = a.sources in
+      let s : KeptSource = get_or sources j d in
+      (position-Some (λ (u : KeptSource). bytes_eq s.head.name u.head.name) sources j d
+      (apart j s (slice_get-get_or sources j d within))).2 i lt
 
-  names-apart : IsDistinct bytes_eq (affected_names p.archive p.tracker)
+  names-apart : IsDistinct bytes_eq (affected_names a t)
   names-apart =
-      let xs = filter affected p.archive.sources in
+      let xs = filter affected a.sources in
       IsDistinct-from_apart bytes_eq (map name_of xs) (λ i j d lt high.
       let within : j < length xs = omega (arith, high, length-map xs name_of) in
       elim (slice_get_cases xs j).1 [
         | inl there ↦
             let s : KeptSource = get_or xs i there.0 in
-            let t : KeptSource = get_or xs j there.0 in
-            ap (λ (a : List ℕ). bytes_eq a (get_or (map name_of xs) j d))
+            let u : KeptSource = get_or xs j there.0 in
+            ap (λ (n : List ℕ). bytes_eq n (get_or (map name_of xs) j d))
             (get_or-map name_of xs i there.0 d (omega arith))
             ∙ ap (bytes_eq s.head.name) (get_or-map name_of xs j there.0 d within)
-            ∙ bytes_eq-swap s.head.name t.head.name
-            ∙ AllPairs-filter IsApart affected p.archive.sources sources-apart i j there.0 lt within
+            ∙ bytes_eq-swap s.head.name u.head.name
+            ∙ AllPairs-filter IsApart affected a.sources sources-apart i j there.0 lt within
         | inr past ↦ absurd (omega (arith, past.0, within))
       ])
 
   -- each of the names is that of an affected source
-  pub name-affected : (name : List ℕ) → Contains (affected_names p.archive p.tracker) name
-      → IsAffectedName p name
-  name-affected name has =
-      let r = map-found name_of (filter affected p.archive.sources) name has in
-      let f = filter-found affected p.archive.sources r.0 r.1 in
-      let at = placed-at p.archive.sources r.0 f.0 in
+  pub of-affected : (name : List ℕ) → Contains (affected_names a t) name
+      → IsNameAffected a t name
+  of-affected name has =
+      let r = map-found name_of (filter affected a.sources) name has in
+      let f = filter-found affected a.sources r.0 r.1 in
+      let at = placed-at a.sources r.0 f.0 in
       record {
         number = f.0.0;
         source = r.0;
-        named = ap (number_named p.archive) (sym r.2) ∙ sound.numbered f.0.0 r.0 at;
+        named = ap (number_named a) (sym r.2) ∙ apart f.0.0 r.0 at;
         at = at;
         affected = f.1;
       }
 
   module _ (names : List (List ℕ))
-      (all : IsPermutation (affected_names p.archive p.tracker) names) where
-    pub names-affected : All (IsAffectedName p) names
-    names-affected = λ k d lt. name-affected (get_or names k d)
-        (Contains-permutation names (affected_names p.archive p.tracker) (get_or names k d)
-        (IsPermutation-sym (affected_names p.archive p.tracker) names all)
+      (all : IsPermutation (affected_names a t) names) where
+    pub all-affected : All (IsNameAffected a t) names
+    all-affected = λ k d lt. of-affected (get_or names k d)
+        (Contains-permutation names (affected_names a t) (get_or names k d)
+        (IsPermutation-sym (affected_names a t) names all)
         (Contains-get_or names k d lt))
 
-    module _ (up : IsSorted (slice_cmp nat_cmp) names) (ms : List Mover) (so : AreNamed p names ms)
-      where
-        each-is : (k : ℕ) (m : Mover) → slice_get ms k ≡ Some m → IsMover p m (kept_source m.source)
-        each-is k m at =
-            subst (λ (n : Mover). IsMover p n (kept_source n.source))
-            (get_or_from_slice_get ms k m m at) (so.each k m (slice_get_within ms k m at))
+    module _ (up : IsSorted (slice_cmp nat_cmp) names) (Is : Mover → Type 0)
+        (is-source : (m : Mover) → Is m
+        → slice_get a.sources m.number ≡ Some (kept_source m.source))
+        (ms : List Mover) (so : AreNamedOf Is names ms) where
+      each-is : (k : ℕ) (m : Mover) → slice_get ms k ≡ Some m → Is m
+      each-is k m at =
+          subst Is (get_or_from_slice_get ms k m m at) (so.each k m (slice_get_within ms k m at))
 
-        name-at : (k : ℕ) (m : Mover) → slice_get ms k ≡ Some m → get_or names k [] ≡ mover_name m
-        name-at k m at =
-            ap (λ (l : List (List ℕ)). get_or l k []) (sym so.named)
-            ∙ get_or-map mover_name ms k m [] (slice_get_within ms k m at)
-            ∙ ap mover_name (get_or_from_slice_get ms k m m at)
+      name-at : (k : ℕ) (m : Mover) → slice_get ms k ≡ Some m → get_or names k [] ≡ mover_name m
+      name-at k m at =
+          ap (λ (l : List (List ℕ)). get_or l k []) (sym so.named)
+          ∙ get_or-map mover_name ms k m [] (slice_get_within ms k m at)
+          ∙ ap mover_name (get_or_from_slice_get ms k m m at)
 
-        -- the movers are all affected sources
-        pub movers-are : AreMovers p ms
-        movers-are = record {
-          each = each-is;
-          all = λ s has is.
-              let named = map-again name_of (filter affected p.archive.sources) s
-              (filter-again affected p.archive.sources s has is) in
-              let listed : Contains (map mover_name ms) s.head.name =
-              subst (λ (l : List (List ℕ)). Contains l s.head.name) (sym so.named)
-              (Contains-permutation (affected_names p.archive p.tracker) names s.head.name all
-              named)
-              in
-              let mine = map-found mover_name ms s.head.name listed in
-              let at = placed-at ms mine.0 mine.1 in
-              let its = each-is mine.1.0 mine.0 at in (
-                mine.1.0,
-                mine.0,
-                at,
-                one-named p sound mine.0.number has.0 (kept_source mine.0.source) s its.at
-                    (placed-at p.archive.sources s has) mine.2,
-              );
-          rising = λ j k m n lt left right.
-              let within : k < length names = omega (
-                arith,
-                slice_get_within ms k n right,
-                length-map ms mover_name,
-                ap length so.named,
-              ) in
-              let apart = IsDistinct-IsPermutation bytes_eq bytes_eq-swap
-              (affected_names p.archive p.tracker) names all names-apart in
-              ap (λ (a : List ℕ). is_before a (mover_name n)) (sym (name-at j m left))
-              ∙ ap (is_before (get_or names j [])) (sym (name-at k n right))
-              ∙ rise-sorted names up apart j k [] lt within;
-        }
+      -- the sources with the names are all affected sources
+      pub all-are : AreAllOf Is a t ms
+      all-are = record {
+        each = each-is;
+        all = λ s has is.
+            let named = map-again name_of (filter affected a.sources) s
+            (filter-again affected a.sources s has is) in
+            let listed : Contains (map mover_name ms) s.head.name =
+            subst (λ (l : List (List ℕ)). Contains l s.head.name) (sym so.named)
+            (Contains-permutation (affected_names a t) names s.head.name all named) in
+            let mine = map-found mover_name ms s.head.name listed in
+            let at = placed-at ms mine.0 mine.1 in
+            let its = each-is mine.1.0 mine.0 at in (
+              mine.1.0,
+              mine.0,
+              at,
+              one-of-name a apart mine.0.number has.0 (kept_source mine.0.source) s
+                  (is-source mine.0 its) (placed-at a.sources s has) mine.2,
+            );
+        rising = λ j k m n lt left right.
+            let within : k < length names = omega (
+              arith,
+              slice_get_within ms k n right,
+              length-map ms mover_name,
+              ap length so.named,
+            ) in
+            let distinct = IsDistinct-IsPermutation bytes_eq bytes_eq-swap
+            (affected_names a t) names all names-apart in
+            ap (λ (w : List ℕ). is_before w (mover_name n)) (sym (name-at j m left))
+            ∙ ap (is_before (get_or names j [])) (sym (name-at k n right))
+            ∙ rise-sorted names up distinct j k [] lt within;
+      }
+
+module _ (p : Premises) (sound : AreSound p) (names : List (List ℕ))
+    (all : IsPermutation (affected_names p.archive p.tracker) names) where
+  pub names-affected : All (IsAffectedName p) names
+  names-affected = all-affected p.archive p.tracker sound.numbered names all
+
+  -- the movers are all affected sources
+  pub movers-are : IsSorted (slice_cmp nat_cmp) names → (ms : List Mover) → AreNamed p names ms
+      → AreMovers p ms
+  movers-are up ms so = all-are p.archive p.tracker sound.numbered names all up
+      (λ m. IsMover p m (kept_source m.source)) (λ m is. is.at) ms so

@@ -16,6 +16,7 @@ use Rattle.td_indices.specs.Archive.{Contents, is_of}
 use Rattle.td_indices.specs.Kept.{KeptBinary}
 use Rattle.td_indices.specs.Sources.{KeptSource}
 use Rattle.td_indices.specs.Stanzas.{build_depends_arch_of, build_depends_of}
+use Rattle.td_query.specs.Tracking.{Tracking}
 use Rattle.td_waves.specs.BuildsOn.{is_active_at, some_asked}
 use Rattle.td_plan.specs.declared.asks.Ask.{Ask}
 use Rattle.td_plan.specs.declared.due.Motion.TheVariants.{Due, Pending, Still}
@@ -27,7 +28,8 @@ use Rattle.td_plan.specs.InOrder.{is_before}
 use Rattle.td_plan.specs.Premises.{Premises}
 use Rattle.td_plan.specs.inner.Asked.{AreAsks, IsAsk, is_asked, names_as}
 use Rattle.td_plan.specs.inner.Motions.{motion_at}
-use Rattle.td_plan.specs.inner.Movers.{AreMovers, IsMover, arrival_of, has_moving_motion}
+use Rattle.td_plan.specs.inner.Movers.{AreAllOf, AreMovers, IsMover, arrival_of}
+use Rattle.td_plan.specs.inner.Movers.{has_moving_motion}
 use Rattle.td_plan.specs.inner.Movers.{is_moving_motion}
 use Rattle.td_plan.specs.inner.Waiters.{is_awaited, kept_of}
 use Rattle.td_plan.proofs.Chosen.{any-again, any-found}
@@ -166,10 +168,10 @@ module _ (p : Premises) (m : Mover) (is : IsMover p m (kept_of m)) (place : ℕ)
 
 -- ---- 3. asks, and whom a source waits for
 
-pub names-apart : (p : Premises) (ms : List Mover) → AreMovers p ms → (j k : ℕ) (m n : Mover)
-    → slice_get ms j ≡ Some m → slice_get ms k ≡ Some n → ¬ (j ≡ k)
-    → ¬ (m.source.name.now ≡ n.source.name.now)
-names-apart p ms are j k m n left right apart same = elim (cases_order j k) [
+pub names-differ : (a : Contents) (x : Tracking) (Is : Mover → Type 0) (ms : List Mover)
+    → AreAllOf Is a x ms → (j k : ℕ) (m n : Mover) → slice_get ms j ≡ Some m
+    → slice_get ms k ≡ Some n → ¬ (j ≡ k) → ¬ (m.source.name.now ≡ n.source.name.now)
+names-differ a x Is ms are j k m n left right apart same = elim (cases_order j k) [
   | inl one ↦ apart one
   | inr other ↦ elim other [
     | inl low ↦ false≢true (sym (before-itself m.source.name.now)
@@ -181,54 +183,55 @@ names-apart p ms are j k m n left right apart same = elim (cases_order j k) [
   ]
 ]
 
+pub names-apart : (p : Premises) (ms : List Mover) → AreMovers p ms → (j k : ℕ) (m n : Mover)
+    → slice_get ms j ≡ Some m → slice_get ms k ≡ Some n → ¬ (j ≡ k)
+    → ¬ (m.source.name.now ≡ n.source.name.now)
+names-apart p = names-differ p.archive p.tracker (λ m. IsMover p m (kept_of m))
+
 -- a source among those that are affected, and a place
-module _ (p : Premises) (ms : List Mover) (are : AreMovers p ms) (own : ℕ) (mine : Mover)
-    (mine-at : slice_get ms own ≡ Some mine) (s : KeptSource) (same : kept_of mine ≡ s)
-    (place : ℕ) (within : place < length p.archive.table) where
+module _ (a : Contents) (x : Tracking) (Is : Mover → Type 0) (ms : List Mover)
+    (are : AreAllOf Is a x ms) (own : ℕ) (mine : Mover) (mine-at : slice_get ms own ≡ Some mine)
+    (s : KeptSource) (same : kept_of mine ≡ s) (place : ℕ) where
   apart-from : (k : ℕ) (t : Mover) → slice_get ms k ≡ Some t → ¬ (k ≡ own)
       → not (bytes_eq s.head.name (kept_of t).head.name) ≡ true
   apart-from k t at apart =
       not_from_false (bytes_eq s.head.name (kept_of t).head.name)
       (false_from_ne_true (bytes_eq s.head.name (kept_of t).head.name) (λ one.
-      names-apart p ms are own k mine t mine-at at (λ e. apart (sym e))
-      (ap (λ (x : KeptSource). x.head.name) same
+      names-differ a x Is ms are own k mine t mine-at at (λ e. apart (sym e))
+      (ap (λ (u : KeptSource). u.head.name) same
       ∙ (bytes_eq-Decides s.head.name (kept_of t).head.name).0 one)))
 
   -- a source builds there on the source whose package it asks for
-  pub ask-builds : (ask : Ask) (t : Mover) → slice_get ms ask.owner ≡ Some t
-      → IsAsk p.archive ms own s place ask → builds_there p.archive place s (kept_of t) ≡ true
-  ask-builds ask t at of =
+  pub ask-built : (ask : Ask) (t : Mover) → slice_get ms ask.owner ≡ Some t
+      → IsAsk a ms own s place ask → builds_there a place s (kept_of t) ≡ true
+  ask-built ask t at of =
       let one : of.owner ≡ t = some_is of.owner t (sym of.at ∙ at) in
       let its : is_of t.source.name.now of.item ≡ true =
-      subst (λ (x : Mover). is_of x.source.name.now of.item ≡ true) one of.of in
+      subst (λ (u : Mover). is_of u.source.name.now of.item ≡ true) one of.of in
       and_from _ _ (apart-from ask.owner t at of.apart)
-      (any-again (λ b. is_of (kept_of t).head.name b && asks_there p.archive s place b)
-      p.archive.binaries of.item
-      (numbered-has p.archive.binaries ask.binary of.item of.there)
+      (any-again (λ b. is_of (kept_of t).head.name b && asks_there a s place b) a.binaries of.item
+      (numbered-has a.binaries ask.binary of.item of.there)
       (and_from (is_of t.source.name.now of.item) _ its
-      (asked-there p.archive s place ask.is_own of.item of.asked)))
+      (asked-there a s place ask.is_own of.item of.asked)))
 
-  -- a source asks for a package of a source that moves and on which it builds there
-  pub builds-ask : (k : ℕ) (t : Mover) → slice_get ms k ≡ Some t
-      → has_moving_motion t ≡ true → builds_there p.archive place s (kept_of t) ≡ true
-      → (ask : Ask) × (ask.owner ≡ k) × IsAsk p.archive ms own s place ask
-  builds-ask k t at moves builds =
-      let both = and_parts (not (bytes_eq s.head.name (kept_of t).head.name)) _ builds in
-      let found = any-found
-      (λ b. is_of (kept_of t).head.name b && asks_there p.archive s place b)
-      p.archive.binaries both.1 in
-      let b = found.0 in
-      let n = has-numbered p.archive.binaries b found.1 in
-      let of = and_parts (is_of (kept_of t).head.name b) _ found.2 in
-      let name = there-asked p.archive s place b of.1 in
+  -- a source asks for each package of another one that moves, where its build asks for what the
+  -- package offers
+  pub there-ask : (k : ℕ) (t : Mover) → slice_get ms k ≡ Some t → has_moving_motion t ≡ true
+      → not (bytes_eq s.head.name (kept_of t).head.name) ≡ true
+      → (number : ℕ) (b : KeptBinary) → slice_get a.binaries number ≡ Some b
+      → is_of (kept_of t).head.name b ≡ true → asks_there a s place b ≡ true
+      → (ask : Ask) × (ask.owner ≡ k) × (ask.binary ≡ number) × IsAsk a ms own s place ask
+  there-ask k t at moves differ number b there its asks =
+      let name = there-asked a s place b asks in
       let apart : ¬ (k ≡ own) = λ one.
       let it : mine ≡ t = some_is mine t (sym mine-at ∙ ap (slice_get ms) (sym one) ∙ at) in
       let names : s.head.name ≡ (kept_of t).head.name =
-      ap (λ (x : KeptSource). x.head.name) (sym same ∙ ap kept_of it) in
+      ap (λ (u : KeptSource). u.head.name) (sym same ∙ ap kept_of it) in
       let bad : false ≡ true =
-      sym (ap not ((bytes_eq-Decides s.head.name (kept_of t).head.name).1 names)) ∙ both.0 in
+      sym (ap not ((bytes_eq-Decides s.head.name (kept_of t).head.name).1 names)) ∙ differ in
       false≢true bad in (
-        record { binary = n.0; owner = k; is_own = name.0 },
+        record { binary = number; owner = k; is_own = name.0 },
+        refl,
         refl,
         record {
           owner = t;
@@ -236,11 +239,39 @@ module _ (p : Premises) (ms : List Mover) (are : AreMovers p ms) (own : ℕ) (mi
           moves = moves;
           apart = apart;
           item = b;
-          there = n.1;
-          of = of.0;
+          there = there;
+          of = its;
           asked = name.1;
         },
       )
+
+  -- a source asks for a package of a source that moves and on which it builds there
+  pub built-ask : (k : ℕ) (t : Mover) → slice_get ms k ≡ Some t
+      → has_moving_motion t ≡ true → builds_there a place s (kept_of t) ≡ true
+      → (ask : Ask) × (ask.owner ≡ k) × IsAsk a ms own s place ask
+  built-ask k t at moves builds =
+      let both = and_parts (not (bytes_eq s.head.name (kept_of t).head.name)) _ builds in
+      let found = any-found (λ b. is_of (kept_of t).head.name b && asks_there a s place b)
+      a.binaries both.1 in
+      let n = has-numbered a.binaries found.0 found.1 in
+      let of = and_parts (is_of (kept_of t).head.name found.0) _ found.2 in
+      let ask = there-ask k t at moves both.0 n.0 found.0 n.1 of.0 of.1 in
+      (ask.0, ask.1, ask.3)
+
+-- a source among those that a plan moves, and a place
+module _ (p : Premises) (ms : List Mover) (are : AreMovers p ms) (own : ℕ) (mine : Mover)
+    (mine-at : slice_get ms own ≡ Some mine) (s : KeptSource) (same : kept_of mine ≡ s)
+    (place : ℕ) (within : place < length p.archive.table) where
+  pub ask-builds : (ask : Ask) (t : Mover) → slice_get ms ask.owner ≡ Some t
+      → IsAsk p.archive ms own s place ask → builds_there p.archive place s (kept_of t) ≡ true
+  ask-builds = ask-built p.archive p.tracker (λ m. IsMover p m (kept_of m)) ms are own mine mine-at
+      s same place
+
+  pub builds-ask : (k : ℕ) (t : Mover) → slice_get ms k ≡ Some t
+      → has_moving_motion t ≡ true → builds_there p.archive place s (kept_of t) ≡ true
+      → (ask : Ask) × (ask.owner ≡ k) × IsAsk p.archive ms own s place ask
+  builds-ask = built-ask p.archive p.tracker (λ m. IsMover p m (kept_of m)) ms are own mine mine-at
+      s same place
 
   module _ (beside : KeptSource → Bool) where
     -- a source asks for a package of the source for which it waits

@@ -48,10 +48,10 @@ flag-itself : (a : Bool) → same_flag a a ≡ true
 flag-itself true = refl
 flag-itself false = refl
 
-abbrev same_ask : Ask → Ask → Bool
+abbrev pub same_ask : Ask → Ask → Bool
 same_ask a b = (a.binary == b.binary) && ((a.owner == b.owner) && same_flag a.is_own b.is_own)
 
-ask-is : (a b : Ask) → same_ask a b ≡ true → a ≡ b
+pub ask-is : (a b : Ask) → same_ask a b ≡ true → a ≡ b
 ask-is a b h =
     let both = and_parts _ _ h in
     let rest = and_parts _ _ both.1 in
@@ -60,7 +60,7 @@ ask-is a b h =
     let flags : a.is_own ≡ b.is_own = flag-is a.is_own b.is_own rest.1 in
     λ i. record { binary = binaries i; owner = owners i; is_own = flags i }
 
-ask-itself : (a b : Ask) → a ≡ b → same_ask a b ≡ true
+pub ask-itself : (a b : Ask) → a ≡ b → same_ask a b ≡ true
 ask-itself a b is =
     subst (λ (x : Ask). same_ask a x ≡ true) is
     (and_from _ _ (eq-eqb a.binary a.binary refl)

@@ -1,7 +1,7 @@
 -- What is asked for at each place, ask by ask.
 use Rattle.std.proofs.Common.{◌≡◌, ◌≢◌, ◌⊎◌, ℕ, ◌+◌, ◌<◌, ◌==◌, ◌&&◌, ◌||◌, Bool, true, false, List}
 use Rattle.std.proofs.Common.{[], ◌∷◌, ◌++◌, length, get_or, map, nat_lt, set, sym, ap, subst, ◌∙◌}
-use Rattle.std.proofs.Common.{inl, inr, Some, slice_get, take, get_or-set_other}
+use Rattle.std.proofs.Common.{inl, inr, get_or-set_other}
 use Rattle.std.specs.Global.{Vec}
 use Rattle.std.specs.List.{Contains, list_any}
 use Rattle.std.proofs.Math.Bool.{or-false, or_assoc}
@@ -10,7 +10,6 @@ use Rattle.std.proofs.lemmas.Grind.{get_or-set_at}
 use Rattle.std.proofs.lemmas.List.{get_or-map, length-map, map-set}
 use Rattle.std.proofs.lemmas.List.Elements.{Contains-get_or}
 use Rattle.td_text.proofs.Anywhere.{any-push}
-use Rattle.td_rows.proofs.Lists.{take-next}
 use Rattle.td_waves.proofs.Passing.{next_below}
 use Rattle.td_plan.specs.declared.asks.Ask.{Ask}
 use Rattle.td_plan.specs.inner.Asking.{AreWithin, asks_at}
@@ -57,18 +56,6 @@ asks-set vs b new low k =
       | inl p ↦ inl (p.1, all ∙ get_or-set_at us b k new.items [] (sym p.1) (rw length-map low))
       | inr p ↦ inr (p.1, all ∙ get_or-set_other us b k new.items [] (λ q. p.1 (sym q)))
     ]
-
--- one item more
-pub any-next : {A : Type 0} (test : A → Bool) (xs : List A) (i : ℕ) (x : A)
-    (now before start : Bool)
-    → slice_get xs i ≡ Some x → now ≡ (before || test x)
-    → before ≡ (start || list_any test (take i xs))
-    → now ≡ (start || list_any test (take (i + 1) xs))
-any-next {A} test xs i x now before start at e was =
-    e ∙ ap (λ (b : Bool). b || test x) was
-    ∙ or_assoc start (list_any test (take i xs)) (test x)
-    ∙ ap (λ (b : Bool). start || b) (sym (any-push test (take i xs) x))
-    ∙ ap (λ (l : List A). start || list_any test l) (sym (take-next xs i x at))
 
 -- a test of the places so far, with one place more
 pub next-asked : (k n : ℕ) (F : ℕ → Bool) (now before start : Bool)

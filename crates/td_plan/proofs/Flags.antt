@@ -1,6 +1,6 @@
 -- Nodes that are taken one by one, and their flags.
 use Rattle.std.proofs.Common.{◌≡◌, ◌⊎◌, ◌+◌, ◌<◌, ◌++◌, ◌∷◌, [], ◌∙◌, ℕ, Bool, false}
-use Rattle.std.proofs.Common.{List, length, set, get_or, cond, inl, inr, refl, sym, ap, subst}
+use Rattle.std.proofs.Common.{List, length, set, get_or, cond, inl, inr, sym, ap, subst}
 use Rattle.std.proofs.Common.{arith}
 use Rattle.std.proofs.Common.{get_or-set_same, get_or-set_other, length-set}
 use Rattle.std.specs.List.{Contains}
@@ -36,24 +36,6 @@ one-less flags b lt is =
     let by = sum_by-set f flags b false false lt in
     let one : f (get_or flags b false) ≡ 1 = ap f is in
     omega (arith, by, one)
-
--- ---- before any node is taken
-
-pub none-taken : (old : List ℕ) (flags : List Bool) → ((n : ℕ) → IsSet flags n → ¬ Contains old n)
-    → AreTakenOf [] old flags old flags
-none-taken old flags apart = record {
-  taken = record {
-    more = λ k lt. refl;
-    long = omega arith;
-    apart = apart;
-    was = λ n is. is;
-    still = λ n is. inr is;
-    counted = refl;
-    len = refl;
-  };
-  all = λ n mine is. absurd (omega (arith, mine.1));
-  only = λ n mine. inl mine;
-}
 
 -- ---- one node more whose flag is set
 

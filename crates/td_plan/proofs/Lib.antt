@@ -90,3 +90,16 @@ pub mod PlayedSources
 pub mod TakenWhole
 pub mod PlayedBack
 pub mod ReadVersions
+pub mod AffectedSources
+pub mod ReasonSteps
+pub mod ReasonLoop
+pub mod ReasonAsks
+pub mod StepFirsts
+pub mod StepLines
+pub mod BasePackages
+pub mod StepTexts
+pub mod StepsOf
+pub mod LevelSources
+pub mod LevelLines
+pub mod LevelsOf
+pub mod OneSteps

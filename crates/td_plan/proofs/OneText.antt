@@ -36,6 +36,15 @@ module _ {A : Type 0} where
       ap (λ b. cond b (x ∷ filter f xs) (filter f xs)) (same x (has_first x xs))
       ∙ ap (λ ys. cond (g x) (x ∷ ys) ys) rest
 
+  -- what is made of the same items in two ways
+  pub made-alike : {B : Type 0} (f g : A → List B) (xs : List A)
+      → ((x : A) → Contains xs x → f x ≡ g x) → flat_map f xs ≡ flat_map g xs
+  made-alike f g [] same = refl
+  made-alike {B} f g (x ∷ xs) same =
+      ap (λ (l : List B). l ++ flat_map f xs) (same x (has_first x xs))
+      ∙ ap (λ (l : List B). g x ++ l)
+      (made-alike f g xs (λ y mine. same y (has_more x xs y mine)))
+
   put-alike : (f g : A → A → Bool) (x : A) (ys : List A)
       → ((y : A) → Contains ys y → f x y ≡ g x y) → put_in f x ys ≡ put_in g x ys
   unfolding put_in

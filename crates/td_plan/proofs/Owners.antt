@@ -5,7 +5,7 @@ use Rattle.std.proofs.Common.{get_or, length, map, slice_get, take, refl, sym, a
 use Rattle.std.proofs.Common.{arith}
 use Rattle.std.specs.Global.{Vec}
 use Rattle.std.specs.List.{All, Contains}
-use Rattle.std.proofs.lemmas.List.{flat_map_more, get_or-map, length-map, map-append}
+use Rattle.std.proofs.lemmas.List.{flat_map_more, get_or-map, length-map}
 use Rattle.std.proofs.lemmas.List.Elements.{All-contains}
 use Rattle.std.proofs.lemmas.Option.{slice_get_cases}
 use Rattle.td_text.proofs.Chain.{some_is}
@@ -71,20 +71,6 @@ graph-within limit all graph is within = graph-from limit graph (λ x y on.
           (subst (λ (l : List ℕ). Contains l y) here on)
       | inr past ↦ absurd (omega (arith, past.0, low))
     ])
-
--- the graph with one source more
-pub graph-next : (all : List (Vec (Vec Ask))) (n : ℕ) (asks : Vec (Vec Ask)) (bases : Vec ℕ)
-    (old new : List (Vec ℕ)) → slice_get all n ≡ Some asks → bases.items ≡ owners_of asks.items
-    → lists old ≡ map (λ (x : Vec (Vec Ask)). owners_of x.items) (take n all)
-    → new ≡ old ++ bases ∷ []
-    → lists new ≡ map (λ (x : Vec (Vec Ask)). owners_of x.items) (take (n + 1) all)
-graph-next all n asks bases old new at is was more =
-    let owners = λ (x : Vec (Vec Ask)). owners_of x.items in
-    let items = λ (v : Vec ℕ). v.items in
-    ap lists more ∙ map-append items old (bases ∷ [])
-    ∙ ap (λ (l : List (List ℕ)). l ++ bases.items ∷ []) was
-    ∙ ap (λ (l : List ℕ). map owners (take n all) ++ l ∷ []) is
-    ∙ sym (ap (map owners) (take-next all n asks at) ∙ map-append owners (take n all) (asks ∷ []))
 
 -- ---- 3. one item more
 

@@ -41,7 +41,7 @@ use Rattle.td_plan.proofs.Waiters.{at-below}
 
 -- the items of a list whose partners in another list pass a test
 module _ (ms : List Mover) (keep : KeptSource → Bool) (chosen : ℕ → Bool) where
-  chosen-are : (ns : List Mover) (fs : List ℕ) (n : ℕ) → length ns ≡ length fs
+  pub chosen-are : (ns : List Mover) (fs : List ℕ) (n : ℕ) → length ns ≡ length fs
       → ((k : ℕ) (m : Mover) → slice_get ns k ≡ Some m → slice_get ms (n + k) ≡ Some m)
       → ((k : ℕ) (m : Mover) (f : ℕ) → slice_get ns k ≡ Some m → slice_get fs k ≡ Some f
       → (has_moving_motion m && keep (kept_of m)) ≡ chosen f)

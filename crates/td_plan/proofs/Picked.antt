@@ -3,6 +3,7 @@ use Rattle.std.proofs.Common.{◌≡◌, ℕ, Bool, true, false, cond, List, [],
 use Rattle.std.proofs.Common.{refl, sym, ap, subst, ◌∙◌, inl, inr, fold}
 use Rattle.std.specs.Prelude.{filter, is_some, slice_get}
 use Rattle.std.specs.List.{Contains, cons_option, filter_map}
+use Rattle.std.specs.Option.{option_map_or}
 use Rattle.std.proofs.lemmas.Bool.{cond_both, false≢true}
 use Rattle.std.proofs.lemmas.Option.{get_or_from_slice_get, slice_get-get_or, slice_get_within}
 use Rattle.td_text.proofs.Chain.{some_is}
@@ -11,6 +12,7 @@ use Rattle.td_plan.specs.InOrder.{earlier, is_before}
 use Rattle.td_plan.specs.inner.Movers.{stepped}
 use Rattle.td_plan.proofs.Existing.{none_has}
 use Rattle.td_plan.proofs.InOrders.{first-least}
+use Rattle.td_plan.proofs.PlacingsAlike.{same-by-order}
 
 -- ---- 1. items by their numbers
 
@@ -121,7 +123,7 @@ module _ {A : Type 0} (name : A → List ℕ) where
   fold-some best [] h = h
   fold-some best (x ∷ xs) h = fold-some (earlier name best x) xs (earlier-some best x)
 
-  there-is : (xs : List A) (x : A) → Contains xs x
+  pub there-is : (xs : List A) (x : A) → Contains xs x
       → is_some (fold (earlier name) None xs) ≡ true
   there-is [] x has = absurd (none_has x has)
   there-is (y ∷ ys) x has = fold-some (Some y) ys refl
@@ -154,3 +156,24 @@ module _ {A : Type 0} (name : A → List ℕ) where
           let right = least-of ys y other in
           ap (λ z. Some z) (tie x y left.0 right.0 (right.1 x (there x left.0))
           (left.1 y (back y right.0)))
+
+  -- lists of the same things have firsts with one name
+  pub first-named : (xs ys : List A)
+      → ((x : A) → Contains xs x → Contains ys x) → ((y : A) → Contains ys y → Contains xs y)
+      → option_map_or name (fold (earlier name) None xs) []
+      ≡ option_map_or name (fold (earlier name) None ys) []
+  first-named xs ys there back =
+      by (fold (earlier name) None xs) (fold (earlier name) None ys) refl refl
+    where
+      by : (o q : Option A) → fold (earlier name) None xs ≡ o → fold (earlier name) None ys ≡ q
+          → option_map_or name o [] ≡ option_map_or name q []
+      by None None mine other = refl
+      by None (Some y) mine other = absurd (false≢true
+          (sym (ap is_some mine) ∙ there-is xs y (back y (least-of ys y other).0)))
+      by (Some x) None mine other = absurd (false≢true
+          (sym (ap is_some other) ∙ there-is ys x (there x (least-of xs x mine).0)))
+      by (Some x) (Some y) mine other =
+          let left = least-of xs x mine in
+          let right = least-of ys y other in
+          same-by-order (name x) (name y) (right.1 x (there x left.0))
+          (left.1 y (back y right.0))

@@ -10,11 +10,12 @@ use Rattle.std.specs.Str.{bytes_eq}
 use Rattle.std.proofs.lemmas.Bool.{cases_Bool, false≢true, true≢false}
 use Rattle.std.proofs.lemmas.Cmp.{nat_list_cmp_total}
 use Rattle.std.proofs.lemmas.Slice.Eq.{bytes_eq-Decides}
+use Rattle.td_indices.specs.Archive.{Contents}
 use Rattle.td_waves.specs.Waves.{BuildsOn}
 use Rattle.td_plan.specs.InOrder.{is_before}
 use Rattle.td_plan.specs.Parts.{IsOnePart, StandsOn}
 use Rattle.td_plan.specs.PartLaws.{PartsAreMutual, PlacingsAreOne, WaysLeadDown}
-use Rattle.td_plan.specs.Placing.{IsPlacing, Moves, Placing, are_of_one_part}
+use Rattle.td_plan.specs.Placing.{IsPlacing, IsPlacingOf, Moves, Placing, are_of_one_part}
 use Rattle.td_plan.specs.Premises.{Premises}
 use Rattle.td_plan.proofs.PartsAlike.{edge-leads-down, steps-agree, way-leads-down}
 
@@ -72,18 +73,20 @@ pub same-by-order : (a b : List ℕ) → is_before a b ≡ false → is_before b
 same-by-order a b up down = slice_cmp-IsAntisymmetric nat_cmp-IsAntisymmetric a b
     (tied (slice_cmp nat_cmp a b) (slice_cmp nat_cmp b a) (nat_list_cmp_total.antisymm a b) up down)
 
-firsts-agree : (p : Premises) (x y : Placing) (name : List ℕ) → IsPlacing p x → IsPlacing p y
-    → Moves p name → x.first name ≡ y.first name
-firsts-agree p x y name left right moves =
-    let mine = left.first name moves in
-    let other = right.first name moves in
-    same-by-order (x.first name) (y.first name)
-    (other.least (x.first name) mine.node mine.within)
-    (mine.least (y.first name) other.node other.within)
+-- two placings of some sources say the same of each
+pub placings-agree : (Node : List ℕ → Type 0) (a : Contents) (x y : Placing) (name : List ℕ)
+    → IsPlacingOf Node a x → IsPlacingOf Node a y → Node name
+    → (x.first name ≡ y.first name) × (x.step name ≡ y.step name)
+placings-agree Node a x y name left right node =
+    let mine = left.first name node in
+    let other = right.first name node in (
+      same-by-order (x.first name) (y.first name)
+          (other.least (x.first name) mine.node mine.within)
+          (mine.least (y.first name) other.node other.within),
+      sym (steps-agree Node (BuildsOn a) x.step y.step left.placed.steps right.placed.steps name
+          node),
+    )
 
 pub placings-are-one : PlacingsAreOne
-placings-are-one = λ p x y name left right moves. (
-  firsts-agree p x y name left right moves,
-  sym (steps-agree (Moves p) (BuildsOn p.archive) x.step y.step left.placed.steps
-      right.placed.steps name moves),
-)
+placings-are-one = λ p x y name left right moves.
+    placings-agree (Moves p) p.archive x y name left right moves

@@ -117,7 +117,8 @@ pub readable_sources : (words : Words) (p : Premises) → AreReadable words p
 readable_sources words p y =
     from_contains IsSourceVersion p.archive.sources (λ s h. y.version s h)
 
-module _ (p : Premises) (sound : AreSound p) (packages : AllByRecursion IsPackage p.archive.binaries)
+module _ (p : Premises) (sound : AreSound p)
+    (packages : AllByRecursion IsPackage p.archive.binaries)
     (sources : AllByRecursion IsSourceVersion p.archive.sources) where
   number_within : (t : KeptSource) (place : ℕ) → arrival_number p t place ≤ 9999
   number_within t place = by (is_due p t place) refl

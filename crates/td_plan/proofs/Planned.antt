@@ -12,14 +12,16 @@ use Rattle.std.proofs.lemmas.List.Elements.{All-get_or}
 use Rattle.std.proofs.lemmas.Option.{slice_get-get_or, slice_get_within}
 use Rattle.std.proofs.lemmas.Slice.Eq.{bytes_eq-Decides}
 use Rattle.td_text.proofs.Chain.{some_is}
+use Rattle.td_indices.specs.Archive.{Contents}
+use Rattle.td_query.specs.Tracking.{Tracking}
 use Rattle.td_plan.specs.declared.movers.Mover.{Mover}
 use Rattle.td_plan.specs.declared.plan.Plan.{Plan}
 use Rattle.td_plan.specs.Plan.{is_beside}
 use Rattle.td_plan.specs.Premises.{Premises}
-use Rattle.td_plan.specs.inner.Movers.{AreMovers, mover_name}
+use Rattle.td_plan.specs.inner.Movers.{AreAllOf, AreMovers, IsMover, mover_name}
 use Rattle.td_plan.specs.inner.Planned.{IsPlanOf, name_at, number_among, placing_in}
 use Rattle.td_plan.specs.inner.Waiters.{is_of_part, kept_of}
-use Rattle.td_plan.proofs.Asked.{names-apart}
+use Rattle.td_plan.proofs.Asked.{names-differ}
 use Rattle.td_plan.proofs.Waiters.{at-below}
 
 -- ---- 1. the number of a name
@@ -39,27 +41,28 @@ first-number test (y ∷ ys) (suc k) x at is none =
     ap (λ (b : Bool). cond (not b) (1 + position_or_len test ys) 0)
     (none 0 y (omega arith) refl) ∙ omega arith
 
-module _ (p : Premises) (ms : List Mover) (are : AreMovers p ms) where
+module _ (a : Contents) (x : Tracking) (Is : Mover → Type 0) (ms : List Mover)
+    (are : AreAllOf Is a x ms) where
   -- two names are one if and only if their numbers are
-  pub same-name : (j k : ℕ) (m n : Mover) → slice_get ms j ≡ Some m → slice_get ms k ≡ Some n
+  pub one-name : (j k : ℕ) (m n : Mover) → slice_get ms j ≡ Some m → slice_get ms k ≡ Some n
       → bytes_eq (mover_name m) (mover_name n) ≡ (j == k)
-  same-name j k m n left right = elim (eqb_tells j k) [
+  one-name j k m n left right = elim (eqb_tells j k) [
     | inl is ↦
         let one : m ≡ n = some_is m n (sym left ∙ ap (slice_get ms) is.1 ∙ right) in
         (bytes_eq-Decides (mover_name m) (mover_name n)).1 (ap mover_name one) ∙ sym is.0
     | inr other ↦
         false_from_ne_true (bytes_eq (mover_name m) (mover_name n)) (λ same.
-        names-apart p ms are j k m n left right other.1
+        names-differ a x Is ms are j k m n left right other.1
         ((bytes_eq-Decides (mover_name m) (mover_name n)).0 same))
         ∙ sym other.0
   ]
 
-  pub number-is : (k : ℕ) (m : Mover) → slice_get ms k ≡ Some m
+  pub number-of-name : (k : ℕ) (m : Mover) → slice_get ms k ≡ Some m
       → number_among ms (mover_name m) ≡ k
-  number-is k m at =
+  number-of-name k m at =
       first-number (λ (n : Mover). bytes_eq (mover_name m) (mover_name n)) ms k m at
       ((bytes_eq-Decides (mover_name m) (mover_name m)).1 refl)
-      (λ j n low there. same-name k j m n at there
+      (λ j n low there. one-name k j m n at there
       ∙ other-number k j (λ same. omega arith))
     where
       other-number : (a b : ℕ) → ¬ (a ≡ b) → (a == b) ≡ false
@@ -67,6 +70,15 @@ module _ (p : Premises) (ms : List Mover) (are : AreMovers p ms) where
         | inl is ↦ absurd (apart is.1)
         | inr other ↦ other.0
       ]
+
+module _ (p : Premises) (ms : List Mover) (are : AreMovers p ms) where
+  pub same-name : (j k : ℕ) (m n : Mover) → slice_get ms j ≡ Some m → slice_get ms k ≡ Some n
+      → bytes_eq (mover_name m) (mover_name n) ≡ (j == k)
+  same-name = one-name p.archive p.tracker (λ m. IsMover p m (kept_of m)) ms are
+
+  pub number-is : (k : ℕ) (m : Mover) → slice_get ms k ≡ Some m
+      → number_among ms (mover_name m) ≡ k
+  number-is = number-of-name p.archive p.tracker (λ m. IsMover p m (kept_of m)) ms are
 
 -- ---- 2. the placing of a plan
 

@@ -1,5 +1,5 @@
--- The commands by which a source waits: each place that waits is in exactly one of them, that of its
--- relation.
+-- The commands by which a source waits: each place that waits is in exactly one of them, that of
+-- its relation.
 use Rattle.std.proofs.Common.{◌≡◌, ◌⊎◌, ℕ, ◌&&◌, ◌||◌, Bool, true, false, List, [], ◌∷◌, ◌++◌, map}
 use Rattle.std.proofs.Common.{Some, refl, sym, ap, subst, ◌∙◌, inl, inr}
 use Rattle.std.specs.Prelude.{filter, if◌then◌else◌}
@@ -51,7 +51,8 @@ own-source p s k verb places text own =
 
 -- the command by which a source waits at some places
 abbrev pub dw_of : Premises → KeptSource → WaitingAt → List WaitingAt → CommandParts
-dw_of p s w ws = command_with Dw s (arch_names p (map (λ (v : WaitingAt). v.place) ws)) (relation_of w.waits)
+dw_of p s w ws =
+    command_with Dw s (arch_names p (map (λ (v : WaitingAt). v.place) ws)) (relation_of w.waits)
 
 abbrev pub is_mine : Premises → Key → WaitingAt → Bool
 is_mine p k w = is_mine_at p k w.place
@@ -171,7 +172,8 @@ module _ (p : Premises) (s : KeptSource) (k : Key) (own : s.head.name ≡ k.sour
         named : is_alike w mine ≡ true → is_for (dw_of p s w alike) k ≡ true
         named like =
             dw-names p s k w alike own
-            ∙ some-any (is_mine p k) alike mine (filter-has (is_alike w) (w ∷ ws) mine has like) here
+            ∙ some-any (is_mine p k) alike mine (filter-has (is_alike w) (w ∷ ws) mine has like)
+            here
 
         -- the command of another relation doesn't
         passed : is_alike w mine ≡ false → is_for (dw_of p s w alike) k ≡ false
@@ -213,7 +215,8 @@ module _ (p : Premises) (s : KeptSource) (k : Key) (own : s.head.name ≡ k.sour
         by false is (inr other) later = (
           (λ named. absurd (false≢true (sym (passed other) ∙ named))),
           subst (λ (r : Row). Goes p rest k r (waiting row text))
-              (sym (cond-false (is_for (dw_of p s w alike) k) (waiting row (relation_of w.waits)) row
+              (sym
+              (cond-false (is_for (dw_of p s w alike) k) (waiting row (relation_of w.waits)) row
               (passed other)))
               (later (other-later other) (other-fresh other)),
         )

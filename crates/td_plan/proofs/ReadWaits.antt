@@ -1,5 +1,5 @@
--- Over an archive that was read, the relation of a row's waits is read again, and a row is freed once
--- all that it waits for has arrived.
+-- Over an archive that was read, the relation of a row's waits is read again, and a row is freed
+-- once all that it waits for has arrived.
 use Rattle.std.proofs.Common.{ℕ, List, []}
 use Rattle.std.specs.List.{AllByRecursion}
 use Rattle.td_indices.specs.declared.archive_fault.IndexFile.TheVariants.{Packages, Sources}

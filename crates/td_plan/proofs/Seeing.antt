@@ -60,16 +60,6 @@ found-both (Some b) x one other r found is so =
     let seen : seen_binary x ≡ shown_binary b = cc in
     both-is (one b) (other b) r (so b seen) is
 
--- a package that was found, by the one thing that is asked of it
-pub found-one : (o : Option KeptBinary) (x : Binary) (one : KeptBinary → Bool) (r : Bool)
-    → Some (seen_binary x) ≡ option_map shown_binary o
-    → ((b : KeptBinary) → seen_binary x ≡ shown_binary b → r ≡ one b)
-    → r ≡ option_map_or one o false
-found-one None x one r found so = absurd (cc)
-found-one (Some b) x one r found so =
-    let seen : seen_binary x ≡ shown_binary b = cc in
-    so b seen
-
 -- if no package was found, none passes
 pub found-none : (o : Option KeptBinary) (test : KeptBinary → Bool)
     → None ≡ option_map shown_binary o → false ≡ option_map_or test o false

@@ -56,7 +56,7 @@ apart-found : (s t : List ℕ) → not (bytes_eq s t) ≡ true → s ≢ t
 apart-found s t h e =
     let bad : false ≡ true = sym (ap not ((bytes_eq-Decides s t).1 e)) ∙ h in cc
 
-apart-again : (s t : List ℕ) → s ≢ t → not (bytes_eq s t) ≡ true
+pub apart-again : (s t : List ℕ) → s ≢ t → not (bytes_eq s t) ≡ true
 apart-again s t h = elim (cases_Bool (bytes_eq s t)) [
   | inl is ↦ absurd (h ((bytes_eq-Decides s t).0 is))
   | inr other ↦ ap not other

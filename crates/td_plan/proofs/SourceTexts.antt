@@ -105,7 +105,3 @@ lines-then start mid end xs ys first rest =
     rest ∙ ap (λ (t : List ℕ). t ++ text_of ys) first
     ∙ append_assoc start (text_of xs) (text_of ys)
     ∙ ap (λ (t : List ℕ). start ++ t) (sym (text_of-append xs ys))
-
--- nothing is added
-pub nothing-more : (start : List ℕ) → start ≡ start ++ text_of []
-nothing-more start = sym (append-nil start)

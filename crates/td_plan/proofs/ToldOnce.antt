@@ -90,7 +90,8 @@ rebuilds_are_of_due_sources words p x = (
 
 -- ---- what a source is named
 
-pub named-kept : (p : Premises) (name : List ℕ) (s : KeptSource) → source_named p.archive name ≡ Some s
+pub named-kept : (p : Premises) (name : List ℕ) (s : KeptSource)
+    → source_named p.archive name ≡ Some s
     → Contains p.archive.sources s × (name ≡ s.head.name)
 named-kept p name s h =
     let r = find-has (λ (t : KeptSource). bytes_eq name t.head.name) p.archive.sources s h in

@@ -24,7 +24,7 @@ use Rattle.td_plan.specs.InOrder.{in_order}
 use Rattle.td_plan.specs.Premises.{Premises, name_of}
 use Rattle.td_plan.specs.Waits as spec
 use Rattle.td_plan.specs.Waits.{awaited, is_source_before, is_wait_before, is_waitless, wait_of}
-use Rattle.td_plan.specs.inner.Asked.{AreAsks, AreAsksFor}
+use Rattle.td_plan.specs.inner.Asked.{AreAsks, AreAsksFor, IsAsk}
 use Rattle.td_plan.specs.inner.Asking.{IsByOwner}
 use Rattle.td_plan.specs.inner.Waiters.{AreAdded, AreFound, AreWaits, IsWaiter, awaited_among}
 use Rattle.td_plan.specs.inner.Waiters.{is_awaited}
@@ -76,9 +76,64 @@ passed-next asks start end g k d low high = elim (cases_lt k start) [
   | inr from ↦ omega (arith, g.same k d from low, g.whole end d (omega arith) high)
 ]
 
-first-ask : (asks : List Ask) → 0 < length asks → Ask
+pub first-ask : (asks : List Ask) → 0 < length asks → Ask
 first-ask [] none = absurd (omega arith)
 first-ask (ask ∷ asks) some = ask
+
+-- these are all asks of some kind for one owner
+pub record AreOf (Is : Ask → Type 0) (owner : ℕ) (asks : List Ask) : Type 0 where
+  pub each : (ask : Ask) → Contains asks ask → Is ask × (ask.owner ≡ owner)
+  pub all : (ask : Ask) → Is ask → ask.owner ≡ owner → Contains asks ask
+
+-- the asks of a group are all for its owner
+pub group-of : (Is : Ask → Type 0) (asks : List Ask) → ((ask : Ask) → Contains asks ask → Is ask)
+    → ((ask : Ask) → Is ask → Contains asks ask) → (start end : ℕ) → IsGroup asks start end
+    → (d : Ask) → AreOf Is (get_or asks start d).owner (take (end - start) (drop start asks))
+group-of Is asks each all start end g d = record {
+  each = λ ask has.
+      let i = has.0 in
+      let short : i < end - start = omega (
+        arith,
+        length-take (end - start) (drop start asks),
+        length-drop start asks,
+        has.1,
+      ) in
+      let at : get_or asks (start + i) ask ≡ ask =
+      sym (get_or-drop start asks i ask)
+      ∙ sym (get_or-take (end - start) (drop start asks) i ask short) ∙ has.2 in
+      let mine : Contains asks ask = (start + i, let up = g.within in omega arith, at) in (
+        each ask mine,
+        sym (ap (λ (a : Ask). a.owner) at)
+            ∙ g.same (start + i) ask (omega arith) (omega arith)
+            ∙ ap (λ (a : Ask). a.owner) (get_or_default asks start ask d g.low),
+      );
+  all = λ ask of owner.
+      let has = all ask of in
+      let k = has.0 in
+      let mine : (get_or asks k ask).owner ≡ (get_or asks start ask).owner =
+      ap (λ (a : Ask). a.owner) has.2 ∙ owner
+      ∙ ap (λ (a : Ask). a.owner) (get_or_default asks start d ask g.low) in
+      let from : start ≤ k = elim (cases_lt k start) [
+        | inl before ↦ absurd (let less = g.passed k ask before in omega arith)
+        | inr later ↦ later
+      ] in
+      let up : k < end = elim (cases_lt k end) [
+        | inl below ↦ below
+        | inr later ↦ absurd (let more = g.whole k ask later has.1 in omega arith)
+      ] in
+      let high = g.within in
+      let sum : start + (k - start) ≡ k = omega arith in (
+        k - start,
+        omega (
+          arith,
+          length-take (end - start) (drop start asks),
+          length-drop start asks,
+        ),
+        get_or-take (end - start) (drop start asks) (k - start) ask (omega arith)
+            ∙ get_or-drop start asks (k - start) ask
+            ∙ ap (λ (n : ℕ). get_or asks n ask) sum ∙ has.2,
+      );
+}
 
 module _ (p : Premises) (beside : KeptSource → Bool) (s : KeptSource) (w : Waiter)
     (is : IsWaiter p beside s w) (asks : List Ask)
@@ -87,51 +142,10 @@ module _ (p : Premises) (beside : KeptSource → Bool) (s : KeptSource) (w : Wai
   pub group-are : (start end : ℕ) → IsGroup asks start end → (d : Ask)
       → AreAsksFor p.archive w.movers.now w.mover s w.place (get_or asks start d).owner
       (take (end - start) (drop start asks))
-  group-are start end g d = record {
-    each = λ ask has.
-        let i = has.0 in
-        let short : i < end - start = omega (
-          arith,
-          length-take (end - start) (drop start asks),
-          length-drop start asks,
-          has.1,
-        ) in
-        let at : get_or asks (start + i) ask ≡ ask =
-        sym (get_or-drop start asks i ask)
-        ∙ sym (get_or-take (end - start) (drop start asks) i ask short) ∙ has.2 in
-        let mine : Contains asks ask = (start + i, let up = g.within in omega arith, at) in (
-          are.each ask mine,
-          sym (ap (λ (a : Ask). a.owner) at)
-              ∙ g.same (start + i) ask (omega arith) (omega arith)
-              ∙ ap (λ (a : Ask). a.owner) (get_or_default asks start ask d g.low),
-        );
-    all = λ ask of owner.
-        let has = are.all ask of in
-        let k = has.0 in
-        let mine : (get_or asks k ask).owner ≡ (get_or asks start ask).owner =
-        ap (λ (a : Ask). a.owner) has.2 ∙ owner
-        ∙ ap (λ (a : Ask). a.owner) (get_or_default asks start d ask g.low) in
-        let from : start ≤ k = elim (cases_lt k start) [
-          | inl before ↦ absurd (let less = g.passed k ask before in omega arith)
-          | inr later ↦ later
-        ] in
-        let up : k < end = elim (cases_lt k end) [
-          | inl below ↦ below
-          | inr later ↦ absurd (let more = g.whole k ask later has.1 in omega arith)
-        ] in
-        let high = g.within in
-        let sum : start + (k - start) ≡ k = omega arith in (
-          k - start,
-          omega (
-            arith,
-            length-take (end - start) (drop start asks),
-            length-drop start asks,
-          ),
-          get_or-take (end - start) (drop start asks) (k - start) ask (omega arith)
-              ∙ get_or-drop start asks (k - start) ask
-              ∙ ap (λ (n : ℕ). get_or asks n ask) sum ∙ has.2,
-        );
-  }
+  group-are start end g d =
+      let group = group-of (IsAsk p.archive w.movers.now w.mover s w.place) asks are.each are.all
+      start end g d in
+      record { each = group.each; all = group.all }
 
   owner-low : (k : ℕ) (d : Ask) → k < length asks → (get_or asks k d).owner < length w.movers.now
   owner-low k d low =

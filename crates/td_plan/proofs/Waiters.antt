@@ -248,46 +248,58 @@ take-one xs k x at =
     take_more xs k x (slice_get_within xs k x at)
     ∙ ap (λ y. take k xs ++ y ∷ []) (get_or_from_slice_get xs k x x at)
 
+module _ (test : KeptSource → Bool) (ms : List Mover) where
+  -- of the sources up to a number those that pass a test
+  abbrev pub passing : ℕ → List KeptSource
+  passing k = filter test (map kept_of (take k ms))
+
+  pub passing-push : (k : ℕ) (t : Mover) → slice_get ms k ≡ Some t
+      → passing (k + 1) ≡ passing k ++ filter test (kept_of t ∷ [])
+  passing-push k t at =
+      ap (λ (l : List Mover). filter test (map kept_of l)) (take-one ms k t at)
+      ∙ ap (filter test) (map-append kept_of (take k ms) (t ∷ []))
+      ∙ filter-append test (map kept_of (take k ms)) (kept_of t ∷ [])
+
+  -- none between two numbers passes
+  skip-by : (low n : ℕ) → low + n ≤ length ms
+      → ((k : ℕ) (t : Mover) → low ≤ k → k < low + n → slice_get ms k ≡ Some t
+      → test (kept_of t) ≡ false)
+      → passing (low + n) ≡ passing low
+  skip-by low zero within none = ap passing (omega arith)
+  skip-by low (suc n) within none =
+      let t = at-below ms (low + n) (omega arith) in
+      let here : filter test (kept_of t.0 ∷ []) ≡ [] =
+      ap (λ (b : Bool). cond b (kept_of t.0 ∷ []) [])
+      (none (low + n) t.0 (omega arith) (omega arith) t.1) in
+      let next : low + suc n ≡ low + n + 1 = omega arith in
+      ap passing next
+      ∙ passing-push (low + n) t.0 t.1
+      ∙ ap (λ (l : List KeptSource). passing (low + n) ++ l) here
+      ∙ append-nil (passing (low + n))
+      ∙ skip-by low n (omega arith)
+      (λ k m up down at. none k m up (omega arith) at)
+
+  pub passing-skip : (low high : ℕ) → low ≤ high → high ≤ length ms
+      → ((k : ℕ) (t : Mover) → low ≤ k → k < high → slice_get ms k ≡ Some t
+      → test (kept_of t) ≡ false)
+      → passing high ≡ passing low
+  passing-skip low high up within none =
+      let is : low + (high - low) ≡ high = omega arith in
+      ap passing (sym is)
+      ∙ skip-by low (high - low) (omega arith)
+      (λ k t above below at. none k t above (omega arith) at)
+
 module _ (p : Premises) (beside : KeptSource → Bool) (s : KeptSource) (place : ℕ)
     (ms : List Mover) where
   pub awaited-push : (k : ℕ) (t : Mover) → slice_get ms k ≡ Some t
       → awaited_among p beside s place (map kept_of (take (k + 1) ms))
       ≡ awaited_among p beside s place (map kept_of (take k ms))
       ++ awaited_among p beside s place (kept_of t ∷ [])
-  awaited-push k t at =
-      ap (λ (l : List Mover). awaited_among p beside s place (map kept_of l)) (take-one ms k t at)
-      ∙ ap (awaited_among p beside s place) (map-append kept_of (take k ms) (t ∷ []))
-      ∙ filter-append (is_awaited p beside s place) (map kept_of (take k ms)) (kept_of t ∷ [])
-
-  -- s waits for none between two numbers
-  skip-by : (low n : ℕ) → low + n ≤ length ms
-      → ((k : ℕ) (t : Mover) → low ≤ k → k < low + n → slice_get ms k ≡ Some t
-      → is_awaited p beside s place (kept_of t) ≡ false)
-      → awaited_among p beside s place (map kept_of (take (low + n) ms))
-      ≡ awaited_among p beside s place (map kept_of (take low ms))
-  skip-by low zero within none =
-      ap (λ (k : ℕ). awaited_among p beside s place (map kept_of (take k ms))) (omega arith)
-  skip-by low (suc n) within none =
-      let t = at-below ms (low + n) (omega arith) in
-      let here : awaited_among p beside s place (kept_of t.0 ∷ []) ≡ [] =
-      ap (λ (b : Bool). cond b (kept_of t.0 ∷ []) [])
-      (none (low + n) t.0 (omega arith) (omega arith) t.1) in
-      let next : low + suc n ≡ low + n + 1 = omega arith in
-      ap (λ (k : ℕ). awaited_among p beside s place (map kept_of (take k ms))) next
-      ∙ awaited-push (low + n) t.0 t.1
-      ∙ ap (λ (l : List KeptSource). awaited_among p beside s place (map kept_of
-      (take (low + n) ms)) ++ l) here
-      ∙ append-nil (awaited_among p beside s place (map kept_of (take (low + n) ms)))
-      ∙ skip-by low n (omega arith)
-      (λ k m up down at. none k m up (omega arith) at)
+  awaited-push = passing-push (is_awaited p beside s place) ms
 
   pub awaited-skip : (low high : ℕ) → low ≤ high → high ≤ length ms
       → ((k : ℕ) (t : Mover) → low ≤ k → k < high → slice_get ms k ≡ Some t
       → is_awaited p beside s place (kept_of t) ≡ false)
       → awaited_among p beside s place (map kept_of (take high ms))
       ≡ awaited_among p beside s place (map kept_of (take low ms))
-  awaited-skip low high up within none =
-      let is : low + (high - low) ≡ high = omega arith in
-      ap (λ (k : ℕ). awaited_among p beside s place (map kept_of (take k ms))) (sym is)
-      ∙ skip-by low (high - low) (omega arith)
-      (λ k t above below at. none k t above (omega arith) at)
+  awaited-skip = passing-skip (is_awaited p beside s place) ms

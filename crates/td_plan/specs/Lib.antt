@@ -14,8 +14,11 @@ pub mod Message
 pub mod Lines
 pub mod Placing
 pub mod Plan
+pub mod Why
+pub mod Steps
 pub mod RowLaws
 pub mod PartLaws
+pub mod StepLaws
 pub mod WaitLaws
 pub mod ReadingLaws
 pub mod PlayLaws

@@ -28,6 +28,10 @@ use Rattle.td_plan.specs.Waits.{Wait, awaited, is_waitless, moving_sources, wait
 abbrev pub is_beside : Placing → KeptSource → KeptSource → Bool
 is_beside x s t = are_of_one_part x t.head.name s.head.name
 
+-- the sources of the part of s among some
+abbrev pub part_among : Placing → List KeptSource → KeptSource → List KeptSource
+part_among x sources s = filter (is_beside x s) sources
+
 -- a place of the table, and for what a source waits there
 pub record WaitingAt : Type 0 where
   pub place : ℕ
@@ -88,9 +92,9 @@ source_lines words x p s =
 
 -- ---- 2. the lines of all sources
 
--- the sources of a part, in byte order
+-- the sources of the part of s, of those that move in byte order
 abbrev pub part_of : Placing → Premises → KeptSource → List KeptSource
-part_of x p s = filter (is_beside x s) (moving_sources p)
+part_of x p s = part_among x (moving_sources p) s
 
 -- the comment before a part of several sources
 abbrev pub part_lines : List KeptSource → List (List ℕ)

@@ -99,8 +99,8 @@ abbrev pub planned : Placing → Premises → Key → Row → Row
 planned x p k row = option_map_or (λ s. option_map_or (λ place. planned_at x p s place row)
     (place_of p.archive.table k.arch) row) (source_named p.archive k.source) row
 
--- each source's version is that of how it is written, as in each archive that was read: a line names
--- it so, and a row whose version is another would be skipped
+-- each source's version is that of how it is written, as in each archive that was read: a line
+-- names it so, and a row whose version is another would be skipped
 abbrev pub VersionsAreRead : Premises → Type 0
 VersionsAreRead p = (s : KeptSource) → Contains p.archive.sources s
     → reading s.head.version ≡ Ok s.head.parts

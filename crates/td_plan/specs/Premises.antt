@@ -59,12 +59,16 @@ pub record IsRowOf (p : Premises) (k : Key) (row : Row) : Type 0 where
   pub at : place_of p.archive.table k.arch ≡ Some place
   pub limited : row.number ≤ max_rebuild
 
+-- no source stands twice: each has its number by its name
+abbrev pub SourcesAreApart : Contents → Type 0
+SourcesAreApart a = (number : ℕ) (s : KeptSource) → slice_get a.sources number ≡ Some s
+    → number_named a s.head.name ≡ Some number
+
 -- what every archive that was read and every `Rows` have: no architecture and no source stands
 -- twice, and the rows are in the order of their keys, and the archive's
 pub record AreSound (p : Premises) : Type 0 where
   pub apart : IsApart p.archive.table
-  pub numbered : (number : ℕ) (s : KeptSource) → slice_get p.archive.sources number ≡ Some s
-      → number_named p.archive s.head.name ≡ Some number
+  pub numbered : SourcesAreApart p.archive
   pub rows : IsTable p.rows
   pub of_archive : (k : Key) (row : Row) → row_of p.rows k ≡ Some row → IsRowOf p k row
 

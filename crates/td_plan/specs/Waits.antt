@@ -4,6 +4,7 @@ use Rattle.std.specs.Prelude.{is_none, if◌then◌else◌}
 use Rattle.std.specs.List.{filter_map}
 use Rattle.td_version.specs.Version.{Parts}
 use Rattle.td_supply.specs.Supplied.{with_rebuild}
+use Rattle.td_indices.specs.Archive.{Contents}
 use Rattle.td_indices.specs.Kept.{KeptBinary}
 use Rattle.td_indices.specs.Sources.{KeptSource}
 use Rattle.td_plan.specs.BuildsThere.{builds_there}
@@ -58,9 +59,13 @@ wait_of p s place t = wait_with p s t place (present_package p.archive s t place
 abbrev pub is_source_before : KeptSource → KeptSource → Bool
 is_source_before s t = is_before s.head.name t.head.name
 
+-- the sources of an archive that pass a test, in byte order
+abbrev pub sources_where : (KeptSource → Bool) → Contents → List KeptSource
+sources_where test a = in_order is_source_before (filter test a.sources)
+
 -- the sources with a row that is due or pending, in byte order
 abbrev pub moving_sources : Premises → List KeptSource
-moving_sources p = in_order is_source_before (filter (moves p) p.archive.sources)
+moving_sources p = sources_where (moves p) p.archive
 
 -- the sources of other parts on which s builds at a place, and whose rows there are due or pending;
 -- a test says of a source whether it is of the part of s

@@ -17,3 +17,5 @@ pub mod Waiters
 pub mod Writing
 pub mod Sources
 pub mod Planned
+pub mod Bases
+pub mod Stepping

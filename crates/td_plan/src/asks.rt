@@ -237,8 +237,8 @@ impl Asker<'_, '_, '_> {
     }
 }
 
-// Puts asks in the order of their owners.
-fn sort_by_owner(asks: &mut Vec<Ask>)
+/// Puts asks in the order of their owners.
+pub fn sort_by_owner(asks: &mut Vec<Ask>)
     ensures same { (test : AskOf → Bool)
         → list_any test asks.new.items ≡ list_any test asks.old.items }
     ensures in_order { IsByOwner asks.new.items }

@@ -4,11 +4,15 @@
 //! `Plan::text` writes the lines. `specs/Plan.antt` says what they are, `specs/Due.antt` which rows
 //! are due, `specs/Parts.antt` what parts and steps are, and `specs/Waits.antt` which row waits for
 //! what.
+//! `Steps::of` finds the steps of all affected sources, and what each of them builds on; its texts
+//! are what `waves` prints by `--steps` and `--why` (`specs/Steps.antt`, `specs/Why.antt`).
 //! A source takes a look-up for each alternative of its build, and a step for each source and each
 //! package that an alternative names; no clause says that.
 #![tactic(auto)]
 
+mod affected;
 mod asks;
+mod bases;
 mod commands;
 mod comments;
 mod due;
@@ -28,6 +32,7 @@ mod row_laws;
 mod search;
 mod sound_laws;
 mod source_text;
+mod steps;
 mod strays;
 mod turning;
 mod versions;
@@ -39,8 +44,8 @@ pub use laws::{
     plan_comments_are_skipped, plan_lines_are_read, plan_relations_are_read, plans_are_read,
 };
 pub use part_laws::{
-    due_sources_are_all, firsts_are_least, parts_are_mutual, placings_are_one, plans_are_one_text,
-    wanted_rows_are_told_once, ways_lead_down,
+    bases_have_packages, due_sources_are_all, firsts_are_least, parts_are_mutual, placings_are_one,
+    plans_are_one_text, steps_are_one_text, wanted_rows_are_told_once, ways_lead_down,
 };
 pub use parts::{Parts, parts_of};
 pub use plan::Plan;
@@ -55,4 +60,5 @@ pub use row_laws::{
 pub use sound_laws::{
     affected_rows_are_enough, read_archives_can_be_planned, versions_of_archives_are_read,
 };
+pub use steps::Steps;
 pub use words::{WordFault, Words};

@@ -1,15 +1,12 @@
 //! The affected sources, with what a plan has to do with their rows.
 ghost use Rattle.std.specs.Prelude.{◌≡◌, ◌<◌, ℕ, true, false, fold, map, IfOk, OnOk, Some, None};
 ghost use Rattle.std.specs.Prelude.{length, slice_get, slice_index_or};
-ghost use Rattle.std.specs.Cmp.Lexicographic.{slice_cmp};
 ghost use Rattle.std.specs.List.{All};
-ghost use Rattle.std.specs.List.Sorted.{IsPermutation, IsSorted};
 ghost use Rattle.std.specs.Option.{option_map_or};
-ghost use Rattle.std.specs.Ordering.{nat_cmp};
 ghost use Rattle.td_version.specs.Version.{parts_of};
 ghost use Rattle.td_indices.specs.Kept.{KeptBinary};
 ghost use Rattle.td_indices.specs.Opening.{is_current};
-ghost use Rattle.td_query.specs.Statuses.{affected_names as affected_names_of, is_affected};
+ghost use Rattle.td_query.specs.Statuses.{is_affected};
 ghost use Rattle.td_plan.specs.Due.{is_present as is_present_of};
 ghost use Rattle.td_plan.specs.InOrder.{
   earlier as earlier_of,
@@ -29,6 +26,7 @@ ghost use Rattle.td_plan.specs.inner.Movers.{
   stepped,
 };
 
+use crate::affected::affected_names;
 use crate::due::{Motion, Motions, motions_of};
 use crate::inputs::Inputs;
 use crate::numbers::is_present;
@@ -270,22 +268,6 @@ fn movers_named<'a>(
     Ok(movers)
 }
 
-// The names of the affected sources, in byte order.
-fn affected_names<'a>(
-    rt: &(impl Threads + Sync),
-    alloc: Global,
-    inputs: &Inputs<'_, '_, 'a>,
-) -> Result<Vec<&'a str>, AllocError>
-    ensures all { IfOk result (λ names. (p : Premises) → AreFor inputs.now p → IsPermutation
-        (affected_names_of p.archive p.tracker) (map (λ name. name.now) names.items)) }
-    ensures in_order { IfOk result (λ names.
-        IsSorted (slice_cmp nat_cmp) (map (λ name. name.now) names.items)) }
-{
-    let mut names = inputs.marks.affected_sources(rt, alloc, inputs.archive)?;
-    names.sort_unstable();
-    Ok(names)
-}
-
 /// The affected sources, in the byte order of their names.
 pub fn movers_of<'a>(
     rt: &(impl Threads + Sync),
@@ -295,6 +277,6 @@ pub fn movers_of<'a>(
     ensures { IfOk result (λ movers. (p : Premises) → AreFor inputs.now p → AreSound p
         → AreMovers p movers.items) }
 {
-    let names = affected_names(rt, alloc, inputs)?;
+    let names = affected_names(rt, alloc, inputs.archive, inputs.marks)?;
     movers_named(alloc, inputs, &names)
 }

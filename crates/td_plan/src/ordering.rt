@@ -96,8 +96,12 @@ pub fn positions_of(
     Ok(positions)
 }
 
-// Adds a number to the list of its first one, where there is that.
-fn push_member(members: &mut Vec<Vec<usize>>, first: usize, number: usize) -> Result<(), AllocError>
+/// Adds a number to the list with another number, `first`, if there is that list.
+pub fn push_member(
+    members: &mut Vec<Vec<usize>>,
+    first: usize,
+    number: usize,
+) -> Result<(), AllocError>
     ensures lists { OnOk result ((k : ℕ) → k < length members.old.items
         → bases_of (lists members.new.items) k
         ≡ (if first == k then bases_of (lists members.old.items) k ++ number ∷ []

@@ -2,6 +2,7 @@
 ghost use Rattle.td_plan.specs.PartLaws.{DueSourcesAreAll, FirstsAreLeast, PartsAreMutual};
 ghost use Rattle.td_plan.specs.PartLaws.{PlacingsAreOne, PlansAreOneText, WantedRowsAreToldOnce};
 ghost use Rattle.td_plan.specs.PartLaws.{WaysLeadDown};
+ghost use Rattle.td_plan.specs.StepLaws.{BasesHavePackages, StepsAreOneText, WhysAreOneText};
 
 /// Two sources are of one part if and only if they are one, or each builds on the other, directly
 /// or round about.
@@ -22,6 +23,18 @@ pub fn placings_are_one()
 /// The plans of the same premises, message and suite are one text.
 pub fn plans_are_one_text()
     ensures { PlansAreOneText }
+{}
+
+/// A source builds on another one if and only if there is a package by which it does.
+pub fn bases_have_packages()
+    ensures { BasesHavePackages }
+{}
+
+/// What a tracker's affected sources are by steps is one text; so is what they are by levels, each
+/// with what it builds on.
+pub fn steps_are_one_text()
+    ensures steps { StepsAreOneText }
+    ensures whys { WhysAreOneText }
 {}
 
 /// The first of some packages is one of them, and none of them is before it.

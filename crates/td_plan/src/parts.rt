@@ -149,6 +149,8 @@ pub fn parts_of(alloc: Global, graph: &[Vec<usize>]) -> Result<Parts, AllocError
     ensures placed { IfOk result (λ parts. ArePlaced (IsNode (lists graph.now))
         (BuildsOn (lists graph.now)) (λ node. slice_index parts.firsts.items node)
         (λ node. slice_index parts.steps.items node)) }
+    ensures low { IfOk result (λ parts. (node : ℕ)
+        → slice_index parts.steps.items node ≤ length graph.now) }
     ensures firsts { IfOk result (λ parts. (node : ℕ) → IsNode (lists graph.now) node
         → IsLeastOf (IsNode (lists graph.now)) (BuildsOn (lists graph.now))
         (slice_index parts.firsts.items node) node) }

@@ -63,8 +63,8 @@ pub fn plans_are_taken_whole()
     ensures { PlansAreTakenWhole }
 {}
 
-/// After a plan was taken whole, the undo of its commands from the last to the first gives every row
-/// back.
+/// After a plan was taken whole, the undo of its commands from the last to the first gives every
+/// row back.
 pub fn plans_are_undone()
     ensures { PlansAreUndone }
 {}

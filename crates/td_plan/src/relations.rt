@@ -1,6 +1,7 @@
 //! What a source is told to wait for, and where.
 
-ghost use Rattle.std.specs.Prelude.{◌≡◌, ◌++◌, [], IfOk, OnOk, filter, length, map, nat_lt, position};
+ghost use Rattle.std.specs.Prelude.{◌≡◌, ◌++◌, [], IfOk, OnOk, filter, length, map, nat_lt};
+ghost use Rattle.std.specs.Prelude.{position};
 ghost use Rattle.std.specs.Prelude.{string_bytes, if◌then◌else◌};
 ghost use Rattle.std.specs.Str.{bytes_eq};
 ghost use Rattle.td_rows.specs.Appending.{Grown};
@@ -88,7 +89,8 @@ fn push_waits(
     place: usize,
 ) -> Result<(), AllocError>
     ensures { OnOk result (map seen_told told.new.items ≡ (if nat_lt 0 (length waits.now)
-        then with_place (relation_of_waits (map seen waits.now)) place (map seen_told told.old.items)
+        then with_place (relation_of_waits (map seen waits.now)) place
+        (map seen_told told.old.items)
         else map seen_told told.old.items)) }
 {
     if waits.is_empty() {

@@ -54,8 +54,8 @@ pub struct Waiter<'b, 't, 'a> {
     pub place: usize,
 }
 
-// Where the asks for one owner end that begin at a place of a list in the order of the owners.
-fn group_end(asks: &[Ask], start: usize) -> usize
+/// Where the asks for one owner end that begin at a place of a list in the order of the owners.
+pub fn group_end(asks: &[Ask], start: usize) -> usize
     requires { start < length asks.now }
     ensures after { start < result }
     ensures within { result ≤ length asks.now }
@@ -72,8 +72,8 @@ fn group_end(asks: &[Ask], start: usize) -> usize
     end
 }
 
-// The owner of the first of some asks.
-fn first_owner(asks: &[Ask]) -> usize
+/// The owner of the first of some asks.
+pub fn first_owner(asks: &[Ask]) -> usize
     requires { 0 < length asks.now }
     ensures { (d : AskOf) → result ≡ (slice_index_or asks.now 0 d).owner }
 {

@@ -1,4 +1,4 @@
-//! The tests of td_plan: whole plans over small archives, worked by hand.
+//! The tests of td_plan: whole plans and lists of steps over small archives, worked by hand.
 //!
 //! They are in a crate of their own, over public calls, so that td_plan isn't proved a second
 //! time with its tests.
@@ -14,5 +14,7 @@ mod parts;
 mod planning;
 #[cfg(test)]
 mod quotes;
+#[cfg(test)]
+mod steps;
 #[cfg(test)]
 mod waits;

@@ -1,13 +1,13 @@
 //! How a case is planned, and compared with what is expected.
 ghost use Rattle.std.specs.Prelude.{◌≡◌, Ok};
 
-use crate::{left, numbers, parts, quotes, waits};
+use crate::{left, numbers, parts, quotes, steps, waits};
 use std::alloc::{AllocError, Global};
 use std::fmt::Debug;
 use std::process::Abort;
 use std::thread::Threads;
 use td_indices::Archive;
-use td_plan::{Inputs, Plan, Words};
+use td_plan::{Inputs, Plan, Steps, Words};
 use td_query::{Marks, Tracker};
 use td_relation::Archs;
 use td_rows::{Rows, read_state};
@@ -91,6 +91,53 @@ fn are_planned(rt: &(impl Abort + Threads + Sync), alloc: Global, cases: &[Case]
     for case in cases {
         is_planned(rt, alloc, case);
     }
+}
+
+// What is printed by steps, by levels with reasons, and by steps with reasons.
+#[derive(Drop)]
+struct StepTexts {
+    steps: String,
+    why: String,
+    steps_why: String,
+}
+
+fn texts_of(
+    rt: &(impl Threads + Sync),
+    alloc: Global,
+    archive: &Archive<'_, '_>,
+    marks: &Marks,
+) -> Result<StepTexts, AllocError> {
+    let found = Steps::of(rt, alloc, archive, marks)?;
+    Ok(StepTexts {
+        steps: found.text(alloc, false)?,
+        why: found.by_levels(rt, alloc)?,
+        steps_why: found.text(alloc, true)?,
+    })
+}
+
+fn is_stepped(rt: &(impl Abort + Threads + Sync), alloc: Global, case: &steps::Case) {
+    let archs = made(rt, Archs::read(alloc, case.archs));
+    let archive = made(
+        rt,
+        Archive::read(rt, alloc, case.packages, case.sources, &archs),
+    );
+    let tracker = made(rt, Tracker::read(alloc, TRACKER));
+    let marks = made(rt, Marks::make(rt, alloc, &archive, &tracker, TRACKER));
+    let texts = made(rt, texts_of(rt, alloc, &archive, &marks));
+    assert_eq!(rt; texts.steps.as_str(), case.steps, "{}", case.name);
+    assert_eq!(rt; texts.why.as_str(), case.why, "{}", case.name);
+    assert_eq!(rt; texts.steps_why.as_str(), case.steps_why, "{}", case.name);
+}
+
+fn are_stepped(rt: &(impl Abort + Threads + Sync), alloc: Global, cases: &[steps::Case]) {
+    for case in cases {
+        is_stepped(rt, alloc, case);
+    }
+}
+
+#[test]
+fn affected_sources_go_by_steps_and_reasons(rt: HostRuntime) {
+    are_stepped(&rt, rt.alloc(), &steps::CASES);
 }
 
 #[test]

@@ -8,6 +8,7 @@ use Rattle.td_indices.specs.Archive.{Contents, number_named}
 use Rattle.td_indices.specs.Kept.{KeptBinary}
 use Rattle.td_indices.specs.Sources.{KeptSource}
 use Rattle.td_query.specs.Statuses.{is_affected}
+use Rattle.td_query.specs.Tracking.{Tracking}
 use Rattle.td_plan.specs.declared.due.Motion.{Motion}
 use Rattle.td_plan.specs.declared.due.Motion.TheVariants.{Due, Pending, Still}
 use Rattle.td_plan.specs.declared.movers.Mover.{Mover}
@@ -76,34 +77,65 @@ pub record IsMover (p : Premises) (m : Mover) (s : KeptSource) : Type 0 where
   pub packages : ArePackages p s m.packages.items
 
 -- the source with a number is affected, and is the one with this name
-pub record IsAffectedName (p : Premises) (name : List ℕ) : Type 0 where
+pub record IsNameAffected (a : Contents) (t : Tracking) (name : List ℕ) : Type 0 where
   pub number : ℕ
   pub source : KeptSource
-  pub named : number_named p.archive name ≡ Some number
-  pub at : slice_get p.archive.sources number ≡ Some source
-  pub affected : is_affected p.archive p.tracker source ≡ true
+  pub named : number_named a name ≡ Some number
+  pub at : slice_get a.sources number ≡ Some source
+  pub affected : is_affected a t source ≡ true
+
+abbrev pub IsAffectedName : Premises → List ℕ → Type 0
+IsAffectedName p name = IsNameAffected p.archive p.tracker name
 
 -- the name of an affected source
 abbrev pub mover_name : Mover → List ℕ
 mover_name m = m.source.name.now
 
--- the source with this name comes after the others
-pub record HasMore (p : Premises) (name : List ℕ) (old new : List Mover) : Type 0 where
+-- the source with this name comes after the others, and is of some kind
+pub record HasMoreOf (Is : Mover → Type 0) (name : List ℕ) (old new : List Mover) : Type 0 where
   pub mover : Mover
   pub more : new ≡ old ++ mover ∷ []
   pub named : mover_name mover ≡ name
-  pub is : IsMover p mover (kept_source mover.source)
+  pub is : Is mover
 
--- the sources with these names, in their order
-pub record AreNamed (p : Premises) (names : List (List ℕ)) (ms : List Mover) : Type 0 where
-  pub each : All (λ m. IsMover p m (kept_source m.source)) ms
+-- the sources with these names, in their order, all of some kind
+pub record AreNamedOf (Is : Mover → Type 0) (names : List (List ℕ)) (ms : List Mover)
+    : Type 0 where
+  pub each : All Is ms
   pub named : map mover_name ms ≡ names
 
--- all affected sources, in the byte order of their names
-pub record AreMovers (p : Premises) (ms : List Mover) : Type 0 where
-  pub each : (k : ℕ) (m : Mover) → slice_get ms k ≡ Some m → IsMover p m (kept_source m.source)
-  pub all : (s : KeptSource) → Contains p.archive.sources s
-      → is_affected p.archive p.tracker s ≡ true
+-- all affected sources, of some kind each, in the byte order of their names
+pub record AreAllOf (Is : Mover → Type 0) (a : Contents) (t : Tracking) (ms : List Mover)
+    : Type 0 where
+  pub each : (k : ℕ) (m : Mover) → slice_get ms k ≡ Some m → Is m
+  pub all : (s : KeptSource) → Contains a.sources s → is_affected a t s ≡ true
       → (k : ℕ) × (m : Mover) × (slice_get ms k ≡ Some m) × (kept_source m.source ≡ s)
   pub rising : (j k : ℕ) (m n : Mover) → j < k → slice_get ms j ≡ Some m
       → slice_get ms k ≡ Some n → is_before (mover_name m) (mover_name n) ≡ true
+
+-- ---- 4. what a plan has to do with their rows
+
+-- the source with this name comes after the others, with what a plan has to do with its rows
+abbrev pub HasMore : Premises → List ℕ → List Mover → List Mover → Type 0
+HasMore p name old new = HasMoreOf (λ m. IsMover p m (kept_source m.source)) name old new
+
+-- the sources with these names, in their order, with what a plan has to do with their rows
+abbrev pub AreNamed : Premises → List (List ℕ) → List Mover → Type 0
+AreNamed p names ms = AreNamedOf (λ m. IsMover p m (kept_source m.source)) names ms
+
+-- all affected sources, in the byte order of their names, with what a plan has to do with their
+-- rows
+abbrev pub AreMovers : Premises → List Mover → Type 0
+AreMovers p ms = AreAllOf (λ m. IsMover p m (kept_source m.source)) p.archive p.tracker ms
+
+-- ---- 5. affected sources whatever their rows are
+
+-- an affected source of the archive, as one that moves
+pub record IsAffectedMover (a : Contents) (t : Tracking) (m : Mover) : Type 0 where
+  pub at : slice_get a.sources m.number ≡ Some (kept_source m.source)
+  pub affected : is_affected a t (kept_source m.source) ≡ true
+  pub moves : has_moving_motion m ≡ true
+
+-- all affected sources, in the byte order of their names, each as one that moves
+abbrev pub AreAffected : Contents → Tracking → List Mover → Type 0
+AreAffected a t ms = AreAllOf (IsAffectedMover a t) a t ms

@@ -12,6 +12,10 @@ returns-clause-placed c =
     (λ n node. c.loop-node.invariant.taken n
     (omega (arith, node, lists-len c.args.graph.now, c.loop-node-test.false)))
 
+pub returns-clause-low : goal.returns-clause-low
+returns-clause-low c = λ n.
+    omega (arith, c.loop-node.invariant.underway.low n, lists-len c.args.graph.now)
+
 pub returns-clause-firsts : goal.returns-clause-firsts
 returns-clause-firsts c = λ n node.
     least-of (lists c.args.graph.now) c.loop-node.left.items c.loop-node.parts.firsts.items

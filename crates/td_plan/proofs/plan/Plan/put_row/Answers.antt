@@ -19,7 +19,8 @@ returns-in_default-clause-ok c = λ p is are there.
     nothing-then (string_bytes c.args.out.now) _
     (left-unaffected p c.args.key.now c.args.row.now
     (subst (λ (n : List ℕ). (s : KeptSource) → source_named p.archive n ≡ Some s
-    → is_affected p.archive p.tracker s ≡ false) c.source.ensures.text (c.in_default.ensures p is are)))
+    → is_affected p.archive p.tracker s ≡ false) c.source.ensures.text
+    (c.in_default.ensures p is are)))
 
 pub returns-in-Some-index-clause-ok : goal.returns-in-Some-index-clause-ok
 returns-in-Some-index-clause-ok c =

@@ -22,7 +22,8 @@ put_all_told-requires c =
     let limit = length c.args.self.now.archive.now.table in
     record {
       all = ap length c.deref-2.ensures.value ∙ c.in_ok-all.ensures.len;
-      places = subst (λ (l : List Told). All (λ one. All (λ place. place < limit) one.places.items) l)
+      places =
+          subst (λ (l : List Told). All (λ one. All (λ place. place < limit) one.places.items) l)
           (sym c.deref-3.ensures.value)
           (told-below c.in_ok-told.told.items c.in_ok-all.all.items limit c.in_ok-all.ensures.len
           (c.in_ok-told.ensures ∙ ap (λ (l : List Waits). groups [] (filter is_waiting
