@@ -21,7 +21,7 @@ _transdesk() {
         options="--archs --packages --sources --tracker --state --only --summary --chunk"
         options="$options --explain --help"
         ;;
-    waves) options="--archs --packages --sources --tracker --explain --help" ;;
+    waves) options="--archs --packages --sources --tracker --steps --why --explain --help" ;;
     plan)
         options="--archs --packages --sources --tracker --message --state --suite"
         options="$options --explain --help"

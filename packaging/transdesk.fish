@@ -24,6 +24,8 @@ complete -c transdesk -n '__fish_seen_subcommand_from track plan run' -l state -
 complete -c transdesk -n '__fish_seen_subcommand_from simulate check track waves plan run' -l explain -d 'Say where a refused text is wrong'
 complete -c transdesk -n '__fish_seen_subcommand_from track' -l only -x -a 'good bad partial unknown bad,partial' -d 'Statuses of the rows that are printed'
 complete -c transdesk -n '__fish_seen_subcommand_from track' -l summary -d 'Print no rows'
+complete -c transdesk -n '__fish_seen_subcommand_from waves' -l steps -d 'List by steps'
+complete -c transdesk -n '__fish_seen_subcommand_from waves' -l why -d 'Print what each source builds on'
 complete -c transdesk -n '__fish_seen_subcommand_from track' -l chunk -x -d 'Rows of a piece'
 complete -c transdesk -n '__fish_seen_subcommand_from plan' -l message -x -d 'Why rows are rebuilt'
 complete -c transdesk -n '__fish_seen_subcommand_from plan run' -l suite -x -d 'The suite that lines name'

@@ -48,7 +48,10 @@ _transdesk() {
                 '--outcomes=[how builds end]:file:_files' '--journal=[what to go on with]:file:_files' \
                 $explain '--help[tell of the subcommand]'
             ;;
-        waves) _arguments $indices $tracker $explain '--help[tell of the subcommand]' ;;
+        waves)
+            _arguments $indices $tracker '--steps[list by steps]' \
+                '--why[print what each source builds on]' $explain '--help[tell of the subcommand]'
+            ;;
     esac
 }
 

@@ -15,7 +15,7 @@ OF_ARCHIVE = (*INDICES, "tracker")
 OF_CASE = ("state", "journal", "outcomes")
 # The files of a case that have the value of an option, up to a last newline, and those that stand for
 # an option without one.
-VALUES, FLAGS = ("builders", "message", "only", "suite"), ("summary",)
+VALUES, FLAGS = ("builders", "message", "only", "suite"), ("summary", "steps", "why")
 # What each subcommand reads, in this order.
 READ_BY = {
     "simulate": (),

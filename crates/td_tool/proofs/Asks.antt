@@ -1,18 +1,18 @@
 -- What is answered to words, by what they were read as.
 use Rattle.std.proofs.Common.{◌≡◌, ℕ, Bool, List, Option, Result, Ok, Err, IfOk}
-use Rattle.std.proofs.Common.{IfErr, IsOkAnd, MatchResult, None, Some, String, Vec, map}
+use Rattle.std.proofs.Common.{IfErr, IsOkAnd, MatchResult, String, Vec, map}
 use Rattle.std.proofs.Common.{string_bytes}
 use Rattle.std.specs.Prelude.{codes}
 use Rattle.std.proofs.Common.{true, false, inl, inr, refl, sym, ap, subst, ◌∙◌}
 use Rattle.std.specs.declared.alloc.Global.{Global}
 use Rattle.std.specs.Io.KnownBytes.{Keeps}
 use Rattle.td_bytes.specs.declared.text.TextFault.{TextFault}
-use Rattle.td_report.specs.Transition.{IsReportOf, IsWaves}
+use Rattle.td_report.specs.Transition.{IsReportOf}
 use Rattle.td_words.specs.Asked.{Asks, IsUsage, RequestWords, builders_said, check_of}
 use Rattle.td_words.specs.Asked.{plan_of, report_of, request_words, run_of, simulation, track_said}
 use Rattle.td_words.specs.Asked.{waves_of}
 use Rattle.td_words.specs.CommandLine.{AskFor, HasFiles, HasTracker, RunWords, TrackWords}
-use Rattle.td_words.specs.CommandLine.{is_explained, options_of}
+use Rattle.td_words.specs.CommandLine.{WavesWords, is_explained, options_of}
 use Rattle.td_words.specs.PlanWords.{HasMessage, PlanWords, line_words_said}
 use Rattle.td_words.specs.declared.request.Call.{Call}
 use Rattle.td_words.specs.declared.request.Request.{Request}
@@ -28,9 +28,9 @@ use Rattle.td_tool.specs.Ends.{Ends}
 use Rattle.td_tool.specs.Explained.{archive_paths, known_at, known_input, plan_paths, run_paths}
 use Rattle.td_tool.specs.Explained.{track_paths, waves_paths}
 use Rattle.td_tool.specs.Program.{IsTold, LeavesInput, OnlyIfAsked, RanFor, are_explained}
-use Rattle.td_tool.specs.Program.{files_asked, plan_files, words_asked}
+use Rattle.td_tool.specs.Program.{files_asked, plan_files, waves_files, words_asked}
 use Rattle.td_tool.specs.Runs.{EndsRun, run_files_asked}
-use Rattle.td_tool.specs.Tracks.{EndsSo, IsPlanWith, track_files}
+use Rattle.td_tool.specs.Tracks.{EndsSo, IsPlanWith, waves_says}
 use Rattle.td_tool.specs.Ran.{Ran}
 use Rattle.td_tool.specs.Streams.{DueTo}
 use Rattle.td_tool.proofs.Explanations.{line_alone}
@@ -96,10 +96,10 @@ module _ (words : List (List ℕ)) (known left : Option (List ℕ))
       Ran (DueTo reads writes
       (EndsSo (IsReportOf w.shown) (files_asked bytes can_fail w) old new)) b
       (known_at bytes (track_paths w)) before said status
-  RanWords (waves_of archs packages sources tracker) b =
+  RanWords (waves_of w) b =
       Ran (DueTo reads writes
-      (EndsSo IsWaves (track_files bytes can_fail archs packages sources None tracker) old new))
-      b (known_at bytes (waves_paths archs packages sources tracker)) before said status
+      (EndsSo (waves_says w.form) (waves_files bytes can_fail w) old new)) b
+      (known_at bytes (waves_paths w)) before said status
   RanWords (plan_of w) b =
       Ran (DueTo reads writes
       (EndsSo (IsPlanWith (words_asked w)) (plan_files bytes can_fail w) old new)) b
@@ -115,7 +115,7 @@ module _ (words : List (List ℕ)) (known left : Option (List ℕ))
   ran_words Simulate b ran = ran
   ran_words (Check p) b ran = ran
   ran_words (Track r) b ran = ran
-  ran_words (Waves p t) b ran = ran
+  ran_words (Waves r) b ran = ran
   ran_words (Plan r) b ran = ran
   ran_words (Run r) b ran = ran
 
@@ -164,21 +164,17 @@ module _ (words : List (List ℕ)) (known left : Option (List ℕ))
       (ran_same (report_of w))
       (λ kept. (record { says = inl (refl, kept); only = λ x are readable. kept }, tt))
 
-  pub waved : (r : Result Call WordsFault) (explained : Bool)
-      (archs packages sources tracker : List ℕ) → HasRun r → WasTold r → HasFlag explained r
-      → MatchResult r (λ c. request_words c.request ≡ waves_of archs packages sources tracker)
-      (λ e. e ≡ words_fault.NoMemory)
+  pub waved : (r : Result Call WordsFault) (explained : Bool) (w : WavesWords) → HasRun r
+      → WasTold r → HasFlag explained r
+      → MatchResult r (λ c. request_words c.request ≡ waves_of w) (λ e. e ≡ words_fault.NoMemory)
       → Ran (DueTo reads writes
-      (EndsSo IsWaves (track_files bytes can_fail archs packages sources None tracker)
-      old new)) explained (known_at bytes (waves_paths archs packages sources tracker)) before said
-      status
-  waved r explained archs packages sources tracker =
-      answered
-      (DueTo reads writes
-      (EndsSo IsWaves (track_files bytes can_fail archs packages sources None tracker) old new))
-      (known_at bytes (waves_paths archs packages sources tracker))
-      (λ q. request_words q ≡ waves_of archs packages sources tracker) r explained
-      (ran_same (waves_of archs packages sources tracker))
+      (EndsSo (waves_says w.form) (waves_files bytes can_fail w) old new))
+      explained (known_at bytes (waves_paths w)) before said status
+  waved r explained w =
+      answered (DueTo reads writes
+      (EndsSo (waves_says w.form) (waves_files bytes can_fail w) old new))
+      (known_at bytes (waves_paths w)) (λ q. request_words q ≡ waves_of w) r explained
+      (ran_same (waves_of w))
       (λ kept. (record { says = inl (refl, kept); only = λ x are readable. kept }, tt))
 
   pub planned : (r : Result Call WordsFault) (explained : Bool) (w : PlanWords) → HasRun r

@@ -9,6 +9,7 @@ pub mod Asks
 pub mod Explanations
 pub mod Told
 pub mod Plans
+pub mod Ordered
 pub mod Sure
 pub mod UnreadRuns
 pub mod SureRuns

@@ -8,8 +8,8 @@ use Rattle.td_explain.specs.declared.spot.Place.{Place}
 use Rattle.td_explain.specs.declared.spot.Place.TheVariants.{Whole, Line, Stanza, Byte}
 use Rattle.td_explain.specs.Explanation.{explanation}
 use Rattle.td_report.specs.Report.{all_shown}
-use Rattle.td_words.specs.Asked.{plan_words, run_words, track_words}
-use Rattle.td_words.specs.CommandLine.{RunWords, TrackWords}
+use Rattle.td_words.specs.Asked.{plan_words, run_words, track_words, waves_words}
+use Rattle.td_words.specs.CommandLine.{RunWords, TrackWords, WavesWords}
 use Rattle.td_words.specs.PlanWords.{PlanWords}
 use Rattle.td_words.specs.declared.request.Request.{Request}
 use Rattle.td_words.specs.declared.request.Request.TheVariants as asked
@@ -57,13 +57,13 @@ track_paths w Outcomes = None
 track_paths w Journal = None
 
 -- the paths of the files of waves: those of a report over the archive's own rows
-abbrev pub waves_paths : List ℕ → List ℕ → List ℕ → List ℕ → Role → Option (List ℕ)
-waves_paths archs packages sources tracker =
+abbrev pub waves_paths : WavesWords → Role → Option (List ℕ)
+waves_paths w =
     track_paths (record {
-      archs = archs;
-      packages = packages;
-      sources = sources;
-      tracker = tracker;
+      archs = w.archs;
+      packages = w.packages;
+      sources = w.sources;
+      tracker = w.tracker;
       state = None;
       shown = all_shown;
       chunk = None;
@@ -115,9 +115,7 @@ paths_of (asked.Check files) role =
     archive_paths (string_bytes files.archs) (string_bytes files.packages)
     (string_bytes files.sources) role
 paths_of (asked.Track r) role = track_paths (track_words r) role
-paths_of (asked.Waves files tracker) role =
-    waves_paths (string_bytes files.archs) (string_bytes files.packages)
-    (string_bytes files.sources) (string_bytes tracker) role
+paths_of (asked.Waves r) role = waves_paths (waves_words r) role
 paths_of (asked.Plan r) role = plan_paths (plan_words r) role
 paths_of (asked.Run r) role = run_paths (run_words r) role
 
@@ -130,9 +128,7 @@ known_of_request (asked.Check files) known bytes =
     known_at bytes (archive_paths (string_bytes files.archs) (string_bytes files.packages)
     (string_bytes files.sources))
 known_of_request (asked.Track r) known bytes = known_at bytes (track_paths (track_words r))
-known_of_request (asked.Waves files tracker) known bytes =
-    known_at bytes (waves_paths (string_bytes files.archs) (string_bytes files.packages)
-    (string_bytes files.sources) (string_bytes tracker))
+known_of_request (asked.Waves r) known bytes = known_at bytes (waves_paths (waves_words r))
 known_of_request (asked.Plan r) known bytes = known_at bytes (plan_paths (plan_words r))
 known_of_request (asked.Run r) known bytes = known_at bytes (run_paths (run_words r))
 

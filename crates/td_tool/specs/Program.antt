@@ -14,18 +14,18 @@ use Rattle.td_words.specs.declared.request.Request.TheVariants.{Plan, Run}
 use Rattle.td_words.specs.declared.request.WordsFault.{WordsFault}
 use Rattle.td_words.specs.declared.request.WordsFault.TheVariants as words_fault
 use Rattle.td_plan.specs.Lines.{Words}
-use Rattle.td_report.specs.Transition.{IsReportOf, IsWaves}
+use Rattle.td_report.specs.Transition.{IsReportOf}
 use Rattle.td_words.specs.Asked.{Asks, builders_said, plan_words, request_words}
-use Rattle.td_words.specs.Asked.{run_words, track_said, track_words}
-use Rattle.td_words.specs.CommandLine.{AskFor, HasFiles, HasTracker, TrackWords, is_explained}
-use Rattle.td_words.specs.CommandLine.{options_of}
+use Rattle.td_words.specs.Asked.{run_words, track_said, track_words, waves_words}
+use Rattle.td_words.specs.CommandLine.{AskFor, HasFiles, HasTracker, TrackWords, WavesWords}
+use Rattle.td_words.specs.CommandLine.{is_explained, options_of}
 use Rattle.td_words.specs.PlanWords.{HasMessage, PlanWords, line_words_said}
 use Rattle.td_tool.specs.declared.ending.Ending.{Ending}
 use Rattle.td_tool.specs.declared.ending.Ending.TheVariants.{NoMemory}
 use Rattle.td_tool.specs.Ending.{line_of}
 use Rattle.td_tool.specs.Ends.{Ends}
 use Rattle.td_tool.specs.Checks.{Checks, archive_files_at}
-use Rattle.td_tool.specs.Tracks.{EndsSo, IsPlanWith, TrackFiles, track_files}
+use Rattle.td_tool.specs.Tracks.{EndsSo, IsPlanWith, TrackFiles, track_files, waves_says}
 use Rattle.td_tool.specs.Runs.{EndsRun, run_files_asked}
 use Rattle.td_tool.specs.Explained.{known_of_request}
 use Rattle.td_tool.specs.Ran.{Ran}
@@ -109,6 +109,12 @@ abbrev pub files_asked : (List ℕ → Option (List ℕ)) → (List ℕ → Text
 files_asked bytes can_fail w =
     track_files bytes can_fail w.archs w.packages w.sources w.state w.tracker
 
+-- the files of the waves that the words ask for
+abbrev pub waves_files : (List ℕ → Option (List ℕ)) → (List ℕ → TextFault → Bool) → WavesWords
+    → TrackFiles
+waves_files bytes can_fail w =
+    track_files bytes can_fail w.archs w.packages w.sources None w.tracker
+
 -- the files of which a plan is asked for
 abbrev pub plan_files : (List ℕ → Option (List ℕ)) → (List ℕ → TextFault → Bool) → PlanWords
     → TrackFiles
@@ -127,10 +133,8 @@ EndsFor (Check files) known left bytes can_fail old new ending =
     Checks (archive_files_at bytes can_fail files) old new ending
 EndsFor (Track r) known left bytes can_fail old new ending =
     EndsSo (IsReportOf r.shown) (files_asked bytes can_fail (track_words r)) old new ending
-EndsFor (Waves files tracker) known left bytes can_fail old new ending =
-    EndsSo IsWaves (track_files bytes can_fail (string_bytes files.archs)
-    (string_bytes files.packages) (string_bytes files.sources) None (string_bytes tracker)) old new
-    ending
+EndsFor (Waves r) known left bytes can_fail old new ending =
+    EndsSo (waves_says r.form) (waves_files bytes can_fail (waves_words r)) old new ending
 EndsFor (Plan r) known left bytes can_fail old new ending =
     EndsSo (IsPlanWith (words_asked (plan_words r))) (plan_files bytes can_fail (plan_words r)) old
     new ending
@@ -152,7 +156,7 @@ abbrev pub HasNoBuilders : Request → Type 0
 HasNoBuilders Simulate = Unit {0}
 HasNoBuilders (Check files) = Unit {0}
 HasNoBuilders (Track r) = Unit {0}
-HasNoBuilders (Waves files tracker) = Unit {0}
+HasNoBuilders (Waves r) = Unit {0}
 HasNoBuilders (Plan r) = Unit {0}
 HasNoBuilders (Run r) = r.builders ≡ 0
 
@@ -162,7 +166,7 @@ abbrev pub LeavesInput : Request → Option (List ℕ) → Option (List ℕ) →
 LeavesInput Simulate known left = Unit {0}
 LeavesInput (Check files) known left = Keeps known left
 LeavesInput (Track r) known left = Keeps known left
-LeavesInput (Waves files tracker) known left = Keeps known left
+LeavesInput (Waves r) known left = Keeps known left
 LeavesInput (Plan r) known left = Keeps known left
 LeavesInput (Run r) known left = Unit {0}
 

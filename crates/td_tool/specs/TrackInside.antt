@@ -1,6 +1,6 @@
 -- What the inner functions of `track`, `waves` and `plan` answer. This project's own.
-use Rattle.std.specs.Prelude.{◌≡◌, ◌⊎◌, ◌≤◌, ℕ, Bool, List, length, Option, None, Some, option_map}
-use Rattle.std.specs.Prelude.{Result, IfOk, IfErr, String, string_bytes}
+use Rattle.std.specs.Prelude.{◌≡◌, ◌⊎◌, ◌≤◌, ℕ, Bool, true, false, List, length, Option, None, Some}
+use Rattle.std.specs.Prelude.{option_map, Result, IfOk, IfErr, String, string_bytes}
 use Rattle.std.specs.declared.alloc.Global.{Global}
 use Rattle.std.specs.Io.KnownBytes.{Keeps}
 use Rattle.td_bytes.specs.declared.text.TextFault.{TextFault}
@@ -16,6 +16,7 @@ use Rattle.td_plan.specs.inner.Writing.{seen_words}
 use Rattle.td_query.specs.Tracking.{Tracking}
 use Rattle.td_report.specs.Transition.{IsReportOf, IsWaves}
 use Rattle.td_words.specs.declared.line_words.LineWords.{LineWords}
+use Rattle.td_words.specs.declared.request.WavesForm.{WavesForm}
 use Rattle.td_tool.specs.Limits.{file_limit}
 use Rattle.td_tool.specs.declared.early_texts.EarlyTexts.{EarlyTexts}
 use Rattle.td_tool.specs.declared.file_texts.FileFault.{FileFault}
@@ -24,24 +25,43 @@ use Rattle.td_tool.specs.declared.track_files.TrackPaths.{TrackPaths}
 use Rattle.td_tool.specs.declared.track_files.TrackTexts.{TrackTexts}
 use Rattle.td_tool.specs.declared.track_files.TrackerTexts.{TrackerTexts}
 use Rattle.td_tool.specs.declared.tracking.Asked.{Asked}
-use Rattle.td_tool.specs.declared.tracking.Asked.TheVariants.{Listed, Planned}
+use Rattle.td_tool.specs.declared.steps_text.Order.{Order}
+use Rattle.td_tool.specs.declared.steps_text.Order.TheVariants.{Levels, Steps}
+use Rattle.td_tool.specs.declared.tracking.Asked.TheVariants.{Listed, Ordered, Planned}
 use Rattle.td_tool.specs.declared.tracking.Listing.{Listing}
 use Rattle.td_tool.specs.declared.tracking.Listing.TheVariants.{Report, Waves}
 use Rattle.td_tool.specs.declared.ending.Ending.{Ending}
 use Rattle.td_tool.specs.declared.ending.Ending.TheVariants.{NoMemory}
 use Rattle.td_tool.specs.Tracks.{AreReadable, AreRefused, AreTextsOf, EndsTold, FailsAt}
 use Rattle.td_tool.specs.Tracks.{IsPatternRefused, IsPlanWith, MayFail, OneFile, Saying, TextsEndSo}
-use Rattle.td_tool.specs.Tracks.{TextsSayIt, Texts, TrackFiles, track_files}
+use Rattle.td_tool.specs.Tracks.{TextsSayIt, Texts, TrackFiles, track_files, waves_by}
 
 -- what a list of a transition says
 abbrev pub listed_of : Listing → Saying
 listed_of (Report shown chunk) = IsReportOf shown
 listed_of Waves = IsWaves
 
+-- what affected sources by steps, or with what each builds on, say
+abbrev pub ordered_of : Order → Saying
+ordered_of (Steps why) = waves_by true why
+ordered_of Levels = waves_by false true
+
 -- what the text that is asked for says
 abbrev pub saying_of : Asked → Saying
 saying_of (Listed listing) = listed_of listing
+saying_of (Ordered order) = ordered_of order
 saying_of (Planned words) = IsPlanWith (seen_words words)
+
+-- what is asked of a tracker where affected sources are listed by steps or by levels, with what each
+-- builds on or without
+abbrev pub asked_with : (steps why : Bool) → Asked
+asked_with true why = Ordered (Steps why)
+asked_with false true = Ordered Levels
+asked_with false false = Listed Waves
+
+-- what is asked of a tracker by the words of waves
+abbrev pub asked_of : WavesForm → Asked
+asked_of form = asked_with form.steps form.why
 
 -- a message and a suite that lines can have
 abbrev pub words_given : LineWords → Words

@@ -1,5 +1,5 @@
 -- What `track`, `waves` and `plan` leave on standard output, as they end. This project's own.
-use Rattle.std.specs.Prelude.{◌≡◌, ◌⊎◌, ℕ, Bool, true, List, [], length, Option, Some, None}
+use Rattle.std.specs.Prelude.{◌≡◌, ◌⊎◌, ℕ, Bool, true, false, List, [], length, Option, Some, None}
 use Rattle.std.specs.Prelude.{option_map}
 use Rattle.std.specs.Io.KnownBytes.{Appends, Keeps}
 use Rattle.td_bytes.specs.Pieces.{AppendsPrefix}
@@ -9,10 +9,13 @@ use Rattle.td_indices.specs.Archive.{Contents}
 use Rattle.td_plan.specs.Lines.{Words}
 use Rattle.td_plan.specs.Plan.{IsPlan}
 use Rattle.td_plan.specs.Premises.{Premises}
+use Rattle.td_plan.specs.Steps.{IsSteps, IsStepsWhy, IsWavesWhy}
 use Rattle.td_query.specs.TrackerFaults as tracker_file
 use Rattle.td_query.specs.TrackerGrammar.{said_in}
 use Rattle.td_query.specs.Tracking.{IsTracker, Tracking}
 use Rattle.td_query.specs.declared.tracker_fault.TrackerFault.{TrackerFault}
+use Rattle.td_report.specs.Transition.{IsWaves}
+use Rattle.td_words.specs.declared.request.WavesForm.{WavesForm}
 use Rattle.td_inputs.specs.Inputs as script
 use Rattle.td_inputs.specs.Inputs.{AreRowsOf}
 use Rattle.td_inputs.specs.declared.role.Role.{Role}
@@ -122,6 +125,18 @@ premises_of c t rows = record { archive = c; tracker = t; rows = rows }
 -- the plan of a tracker over an archive and rows, with this message and this suite
 abbrev pub IsPlanWith : Words → Saying
 IsPlanWith words c t rows text = IsPlan words (premises_of c t rows) text
+
+-- the affected sources by levels or by steps, each with what it builds on or not; only the levels
+-- alone are of rows
+abbrev pub waves_by : Bool → Bool → Saying
+waves_by false false = IsWaves
+waves_by false true = λ c t rows text. IsWavesWhy c t text
+waves_by true false = λ c t rows text. IsSteps c t text
+waves_by true true = λ c t rows text. IsStepsWhy c t text
+
+-- the affected sources, as the words ask for them
+abbrev pub waves_says : WavesForm → Saying
+waves_says form = waves_by form.steps form.why
 
 -- the text that a tracker says over these rows
 abbrev pub TrackerSays : Saying → Contents → Table → List ℕ → List ℕ → Type 0

@@ -5,10 +5,10 @@ ghost use Rattle.std.specs.IoError.{error_kind};
 ghost use Rattle.std.specs.Prelude.{OnOk, OnErr, OnSome};
 ghost use Rattle.std.specs.Io.KnownBytes.{Appends, Keeps};
 ghost use Rattle.td_bytes.specs.Pieces.{AppendsPrefix};
-ghost use Rattle.td_report.specs.Transition.{IsReportOf, IsWaves};
+ghost use Rattle.td_report.specs.Transition.{IsReportOf};
 ghost use Rattle.td_words.specs.CommandLine.{AskFor, AskForCheck, AskForRun, AskForTrack};
-ghost use Rattle.td_words.specs.CommandLine.{AskForWaves, RunWords, TrackWords, is_explained};
-ghost use Rattle.td_words.specs.CommandLine.{options_of};
+ghost use Rattle.td_words.specs.CommandLine.{AskForWaves, RunWords, TrackWords, WavesWords};
+ghost use Rattle.td_words.specs.CommandLine.{is_explained, options_of};
 ghost use Rattle.td_words.specs.PlanWords.{AskForPlan, PlanWords};
 ghost use Rattle.td_tool.specs.Ends.{Ends};
 ghost use Rattle.td_tool.specs.Checks.{Checks, files_of};
@@ -20,10 +20,11 @@ ghost use Rattle.td_tool.specs.Ran.{Ran};
 ghost use Rattle.td_tool.specs.Program.{EndsFor, HasNoBuilders, IsTold, LeavesInput, OnlyIfAsked};
 ghost use Rattle.td_tool.specs.Program.{RanFor};
 ghost use Rattle.td_tool.specs.Program.{TellsFault, TellsUnread, are_explained, fault_text};
-ghost use Rattle.td_tool.specs.Program.{files_asked, plan_files, unread_text, words_asked};
+ghost use Rattle.td_tool.specs.Program.{files_asked, plan_files, unread_text, waves_files};
+ghost use Rattle.td_tool.specs.Program.{words_asked};
 ghost use Rattle.td_tool.specs.Runs.{EndsRun, run_files_asked};
 ghost use Rattle.td_tool.specs.Streams.{DueTo, IsDue};
-ghost use Rattle.td_tool.specs.Tracks.{EndsSo, IsPlanWith, track_files};
+ghost use Rattle.td_tool.specs.Tracks.{EndsSo, IsPlanWith, waves_says};
 
 use crate::checking::check;
 use crate::ending::{Ended, Ending};
@@ -33,7 +34,7 @@ use crate::running::{run_alone, run_beside};
 use crate::simulation::read_and_play;
 use crate::texts::Texts;
 use crate::track_files::TrackPaths;
-use crate::tracking::{Asked, Listing, track};
+use crate::tracking::{Asked, Listing, asked_by, track};
 use std::alloc::Global;
 use std::io;
 use std::io::ErrorKind;
@@ -115,7 +116,7 @@ pub fn crew_of(request: &Request) -> Option<&RunRequest>
         Request::Simulate
         | Request::Check(_)
         | Request::Track(_)
-        | Request::Waves { .. }
+        | Request::Waves(_)
         | Request::Plan(_) => None,
     }
 }
@@ -154,13 +155,13 @@ fn do_alone<T: Texts + Sync, R: Reader, W: Writer>(
             let asked = Asked::Listed(Listing::Report(request.shown, request.chunk));
             track(rt, alloc, texts, &paths, asked, output).alone()
         }
-        Request::Waves { files, tracker } => {
+        Request::Waves(request) => {
             let paths = TrackPaths {
-                files,
+                files: &request.files,
                 state: &None,
-                tracker,
+                tracker: &request.tracker,
             };
-            let asked = Asked::Listed(Listing::Waves);
+            let asked = asked_by(request.form);
             track(rt, alloc, texts, &paths, asked, output).alone()
         }
         Request::Plan(request) => plan(rt, alloc, texts, request, output).alone(),
@@ -307,14 +308,12 @@ fn answer<T: Texts + Sync, R: Reader, W: Writer, E: Writer>(
         (is_explained (options_of (map string_bytes words.now)))
         (known_at (T.bytes texts.now) (track_paths w))
         (E.contents faults.old) (E.contents faults.new) result }
-    ensures waves { (archs packages sources tracker : List ℕ)
-        → AskForWaves (map string_bytes words.now) archs packages sources tracker
+    ensures waves { (w : WavesWords) → AskForWaves (map string_bytes words.now) w
         → Ran (DueTo (R.can_fail reader.old) (W.can_fail output.old)
-        (EndsSo IsWaves
-        (track_files (T.bytes texts.now) (T.can_fail texts.now) archs packages sources None tracker)
+        (EndsSo (waves_says w.form) (waves_files (T.bytes texts.now) (T.can_fail texts.now) w)
         (W.contents output.old) (W.contents output.new)))
         (is_explained (options_of (map string_bytes words.now)))
-        (known_at (T.bytes texts.now) (waves_paths archs packages sources tracker))
+        (known_at (T.bytes texts.now) (waves_paths w))
         (E.contents faults.old) (E.contents faults.new) result }
     ensures plan { (w : PlanWords) → AskForPlan (map string_bytes words.now) w
         → Ran (DueTo (R.can_fail reader.old) (W.can_fail output.old)
@@ -384,14 +383,12 @@ pub fn tool<T: Texts + Sync, R: Reader, W: Writer, E: Writer>(
         (W.contents output.old) (W.contents output.new)))
         (are_explained words) (known_at (T.bytes texts.now) (track_paths w))
         (E.contents faults.old) (E.contents faults.new) result }
-    ensures waves { (archs packages sources tracker : List ℕ) → IsOkAnd words (λ given.
-        AskForWaves (map string_bytes given.items) archs packages sources tracker)
+    ensures waves { (w : WavesWords) → IsOkAnd words (λ given.
+        AskForWaves (map string_bytes given.items) w)
         → Ran (DueTo (R.can_fail reader.old) (W.can_fail output.old)
-        (EndsSo IsWaves
-        (track_files (T.bytes texts.now) (T.can_fail texts.now) archs packages sources None tracker)
+        (EndsSo (waves_says w.form) (waves_files (T.bytes texts.now) (T.can_fail texts.now) w)
         (W.contents output.old) (W.contents output.new)))
-        (are_explained words)
-        (known_at (T.bytes texts.now) (waves_paths archs packages sources tracker))
+        (are_explained words) (known_at (T.bytes texts.now) (waves_paths w))
         (E.contents faults.old) (E.contents faults.new) result }
     // What asks for a plan is answered by it.
     ensures plan { (w : PlanWords) → IsOkAnd words (λ given.

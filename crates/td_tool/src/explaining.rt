@@ -62,9 +62,9 @@ fn path_of(request: &Request, role: Role) -> Option<&String>
             Role::Tracker => Some(&request.tracker),
             _ => archive_path(role, &request.files),
         },
-        Request::Waves { files, tracker } => match role {
-            Role::Tracker => Some(tracker),
-            _ => archive_path(role, files),
+        Request::Waves(request) => match role {
+            Role::Tracker => Some(&request.tracker),
+            _ => archive_path(role, &request.files),
         },
         Request::Plan(request) => match role {
             Role::State => request.state.as_ref(),

@@ -27,6 +27,7 @@ mod planning;
 mod run_files;
 mod running;
 mod simulation;
+mod steps_text;
 mod texts;
 mod track_files;
 mod tracking;

@@ -10,13 +10,15 @@ ghost use Rattle.td_tool.specs.CheckInside.{FileUnread};
 ghost use Rattle.td_tool.specs.Limits.{file_limit};
 ghost use Rattle.td_tool.specs.Tracks.{EndsSo, as_script};
 ghost use Rattle.td_tool.specs.TrackInside.{GivenSays, IsTableWithin, Tells, TellsTexts, WasOpened};
-ghost use Rattle.td_tool.specs.TrackInside.{files_at, listed_of, saying_of, texts_of, texts_over};
+ghost use Rattle.td_tool.specs.TrackInside.{asked_of, files_at, listed_of, saying_of, texts_of};
+ghost use Rattle.td_tool.specs.TrackInside.{texts_over};
 
 use crate::checking::write;
 use crate::early_texts::EarlyTexts;
 use crate::ending::{Ending, ending_of_file, ending_of_opening};
 use crate::file_texts::FileFault;
 use crate::plan_text::opened_plan;
+use crate::steps_text::{Order, opened_order};
 use crate::texts::Texts;
 use crate::track_files::{TrackPaths, TrackTexts, TrackerTexts, read_track_files};
 use std::alloc::{AllocError, Global};
@@ -29,6 +31,7 @@ use td_plan::Words;
 use td_query::Tracker;
 use td_report::{Shown, Transition};
 use td_rows::Rows;
+use td_words::WavesForm;
 
 /// A list of what a transition has.
 #[derive(Clone, Copy, Drop)]
@@ -44,8 +47,21 @@ pub enum Listing {
 pub enum Asked<'w> {
     /// A list over its transition.
     Listed(Listing),
+    /// The affected sources by steps, or with what each builds on.
+    Ordered(Order),
     /// The plan, whose lines have this message and this suite.
     Planned(Words<'w>),
+}
+
+/// What is asked of a tracker by the words of waves.
+pub fn asked_by(form: WavesForm) -> Asked<'static>
+    ensures { result ≡ asked_of form }
+{
+    match (form.steps, form.why) {
+        (true, why) => Asked::Ordered(Order::Steps(why)),
+        (false, true) => Asked::Ordered(Order::Levels),
+        (false, false) => Asked::Listed(Listing::Waves),
+    }
 }
 
 // The report with these rows, by chunks if they are given. A chunk has a row at least.
@@ -183,6 +199,7 @@ fn opened_says<R: Threads + Sync>(
 {
     match asked {
         Asked::Listed(listing) => opened_list(rt, alloc, opened, listing),
+        Asked::Ordered(order) => opened_order(rt, alloc, opened, order),
         Asked::Planned(words) => opened_plan(rt, alloc, opened, &words),
     }
 }

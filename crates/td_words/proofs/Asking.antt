@@ -3,7 +3,7 @@ use Rattle.td_words.specs.declared.request.WordsFault.TheVariants.{NoMemory}
 use Rattle.td_words.specs.Asked.{IsUsage}
 use Rattle.std.proofs.Common.{◌≡◌, ℕ, Bool, true, false, List, [], ◌++◌, Option, Some, None, Result}
 use Rattle.std.proofs.Common.{◌∷◌, Ok, Err, IfOk, MatchResult, codes, option_map, unwrap_or}
-use Rattle.std.proofs.Common.{refl, sym, ap, subst, inl, inr, ◌∙◌}
+use Rattle.std.proofs.Common.{refl, sym, ap, subst, inl, inr, ◌∙◌, append-nil}
 use Rattle.std.specs.Borrow.{Bor}
 use Rattle.clap.specs.Faults.{fault_of, is_simple_and_free}
 use Rattle.clap.specs.Kinds.{HasKind}
@@ -21,6 +21,7 @@ use Rattle.td_words.specs.declared.request.Call.{Call}
 use Rattle.td_words.specs.declared.request.Request.{Request}
 use Rattle.td_words.specs.CommandLine.{AskFor, AskForCheck, AskForRun, AskForTrack, AskForWaves}
 use Rattle.td_words.specs.CommandLine.{CheckWordsExplain, HasFiles, HasRun, HasTrack, HasTracker}
+use Rattle.td_words.specs.CommandLine.{HasWaves, WavesWords}
 use Rattle.td_words.specs.CommandLine.{PlainRunWordsAsk, RunWordsExplain, SimulationWordsAsk}
 use Rattle.td_words.specs.CommandLine.{TrackWords, TrackWordsAsk, TrackWordsExplain, WavesWordsAsk}
 use Rattle.td_words.specs.CommandLine.{WavesWordsExplain, WholeRunWordsAsk, asking_for_check}
@@ -28,7 +29,7 @@ use Rattle.td_words.specs.CommandLine.{asking_for_plain_run, asking_for_track, a
 use Rattle.td_words.specs.CommandLine.{chunk_in, desk, explaining, faults_of, is_explained}
 use Rattle.td_words.specs.CommandLine.{RunWords, builders_in, options_of, plain_run, rows_in}
 use Rattle.td_words.specs.CommandLine.{ShownWordsAsk, suite_in}
-use Rattle.td_words.specs.ShownWords.{shown_in}
+use Rattle.td_words.specs.ShownWords.{form_in, shown_in}
 use Rattle.td_words.specs.declared.request.WordsFault.{WordsFault}
 use Rattle.td_words.specs.Asked.{Asks, IsGivenBy, RequestWords, call_as}
 
@@ -91,6 +92,29 @@ AreOptions options a p s t state chunk =
 pub has_tracker : (options : List Row) (a p s t : List ℕ) → HasFiles options a p s
     → first_of (codes "tracker") options ≡ Some t → HasTracker options a p s t
 has_tracker options a p s t files tracker = record { files = files; tracker_path = tracker }
+
+-- the options have the paths of an archive and of a tracker
+pub tracked : (options : List Row) (a p s t : List ℕ) → first_of (codes "archs") options ≡ Some a
+    → first_of (codes "packages") options ≡ Some p → first_of (codes "sources") options ≡ Some s
+    → first_of (codes "tracker") options ≡ Some t → HasTracker options a p s t
+tracked options a p s t archs packages sources tracker =
+    has_tracker options a p s t
+    (record { archs_path = archs; packages_path = packages; sources_path = sources }) tracker
+
+-- waves with these values
+abbrev waves_as : List ℕ → List ℕ → List ℕ → List ℕ → Bool → Bool → WavesWords
+waves_as a p s t steps why = record {
+  archs = a;
+  packages = p;
+  sources = s;
+  tracker = t;
+  form = record { steps = steps; why = why };
+}
+
+pub has_waves : (options : List Row) (w : WavesWords)
+    → HasTracker options w.archs w.packages w.sources w.tracker → form_in options ≡ w.form
+    → HasWaves options w
+has_waves options w files listed = record { files = files; listed = listed }
 
 -- a report with these values that shows every row
 abbrev pub whole_report : List ℕ → List ℕ → List ℕ → List ℕ → Option (List ℕ) → Option ℕ
@@ -272,26 +296,42 @@ pub waves_explain : WavesWordsExplain
 unfolding clap_on_literals
 waves_explain = record { same = same; flag = flag }
   where
-    same : (program archs packages sources tracker : List ℕ) (explained : Bool)
-        → AskForWaves (asking_for_waves program archs packages sources tracker
-        ++ explaining explained) archs packages sources tracker
-    same program archs packages sources tracker false = (
-      (refl, refl),
-      (has_tracker _ _ _ _ _
-          (record { archs_path = refl; packages_path = refl; sources_path = refl }) refl),
-    )
-    same program archs packages sources tracker true = (
-      (refl, refl),
-      (has_tracker _ _ _ _ _
-          (record { archs_path = refl; packages_path = refl; sources_path = refl }) refl),
-    )
+    -- the words that ask for the form of waves, in each form
+    of_form : (program a p s t : List ℕ) (steps why explained : Bool)
+        → AskForWaves (asking_for_waves program (waves_as a p s t steps why)
+        ++ explaining explained) (waves_as a p s t steps why)
+    of_form program a p s t false false false = ((refl, refl), has_waves _ _ (tracked _ _ _ _ _ refl refl refl refl) refl)
+    of_form program a p s t false false true = ((refl, refl), has_waves _ _ (tracked _ _ _ _ _ refl refl refl refl) refl)
+    of_form program a p s t false true false = ((refl, refl), has_waves _ _ (tracked _ _ _ _ _ refl refl refl refl) refl)
+    of_form program a p s t false true true = ((refl, refl), has_waves _ _ (tracked _ _ _ _ _ refl refl refl refl) refl)
+    of_form program a p s t true false false = ((refl, refl), has_waves _ _ (tracked _ _ _ _ _ refl refl refl refl) refl)
+    of_form program a p s t true false true = ((refl, refl), has_waves _ _ (tracked _ _ _ _ _ refl refl refl refl) refl)
+    of_form program a p s t true true false = ((refl, refl), has_waves _ _ (tracked _ _ _ _ _ refl refl refl refl) refl)
+    of_form program a p s t true true true = ((refl, refl), has_waves _ _ (tracked _ _ _ _ _ refl refl refl refl) refl)
 
-    flag : (program archs packages sources tracker : List ℕ) (explained : Bool)
+    same : (program : List ℕ) (w : WavesWords) (explained : Bool)
+        → AskForWaves (asking_for_waves program w ++ explaining explained) w
+    same program w explained =
+        of_form program w.archs w.packages w.sources w.tracker w.form.steps w.form.why explained
+
+    is_flag : (program a p s t : List ℕ) (steps why explained : Bool)
         → is_explained (options_of
-        (asking_for_waves program archs packages sources tracker ++ explaining explained))
+        (asking_for_waves program (waves_as a p s t steps why) ++ explaining explained))
         ≡ explained
-    flag program archs packages sources tracker false = refl
-    flag program archs packages sources tracker true = refl
+    is_flag program a p s t false false false = refl
+    is_flag program a p s t false false true = refl
+    is_flag program a p s t false true false = refl
+    is_flag program a p s t false true true = refl
+    is_flag program a p s t true false false = refl
+    is_flag program a p s t true false true = refl
+    is_flag program a p s t true true false = refl
+    is_flag program a p s t true true true = refl
+
+    flag : (program : List ℕ) (w : WavesWords) (explained : Bool)
+        → is_explained (options_of (asking_for_waves program w ++ explaining explained))
+        ≡ explained
+    flag program w explained =
+        is_flag program w.archs w.packages w.sources w.tracker w.form.steps w.form.why explained
 
 pub run_explains : RunWordsExplain
 unfolding clap_on_literals
@@ -326,16 +366,13 @@ asks_for_check program archs packages sources =
 
 pub asks_for_track : TrackWordsAsk
 asks_for_track program w chunk same all =
-    subst (λ words. AskForTrack words w) (append_nothing (asking_for_track program w chunk))
+    subst (λ words. AskForTrack words w) (append-nil (asking_for_track program w chunk))
     (track_same program w chunk false same all)
-  where
-    append_nothing : (words : List (List ℕ)) → words ++ [] ≡ words
-    append_nothing [] = refl
-    append_nothing (word ∷ more) = ap (λ rest. word ∷ rest) (append_nothing more)
 
 pub asks_for_waves : WavesWordsAsk
-asks_for_waves program archs packages sources tracker =
-    waves_explain.same program archs packages sources tracker false
+asks_for_waves program w =
+    subst (λ words. AskForWaves words w) (append-nil (asking_for_waves program w))
+    (waves_explain.same program w false)
 
 pub asks_for_plain_run : PlainRunWordsAsk
 asks_for_plain_run program archs packages sources =

@@ -10,7 +10,7 @@ use Rattle.clap.specs.Walk.{Row, finished, nothing_held, walk_from}
 use Rattle.clap.specs.Simple.{Shape, built, subcommand_of}
 use Rattle.clap.proofs.OnLiterals.{clap_on_literals}
 use Rattle.td_words.specs.CommandLine.{AskFor, AskForCheck, AskForTrack, DeskValues, HasFiles}
-use Rattle.td_words.specs.CommandLine.{HasRun, HasTrack, HasTracker, IsPlainPath}
+use Rattle.td_words.specs.CommandLine.{HasRun, HasTrack, HasWaves, IsPlainPath}
 use Rattle.td_words.specs.CommandLine.{asking_apart, check_shape, chunk_in}
 use Rattle.td_words.specs.CommandLine.{desk, faults_of, name_in, options_of, plain_run, plan_shape}
 use Rattle.td_words.specs.CommandLine.{rows_in, run_shape, suite_in, track_shape, waves_shape}
@@ -21,7 +21,7 @@ use Rattle.td_words.specs.WordsApart.{AreDeskPlain, ArePlain, IsPlainIfGiven}
 use Rattle.td_words.specs.WordsApart.{SeparatePlainRunWordsAsk, SeparateTrackWordsAsk}
 use Rattle.td_words.specs.WordsApart.{SeparateWavesWordsAsk, SeparateWholeRunWordsAsk}
 use Rattle.td_words.specs.WordsApart.{plain_run_apart, track_apart, waves_apart, whole_run_apart}
-use Rattle.td_words.proofs.Asking.{AreOptions, has_run, has_track, has_tracker, is_whole}
+use Rattle.td_words.proofs.Asking.{AreOptions, has_run, has_track, has_waves, is_whole, tracked}
 use Rattle.td_words.proofs.Asking.{whole_report}
 use Rattle.td_words.proofs.Apart.{Given, Opens, end_fault, ended, level_passes, stepped, walk_is}
 use Rattle.td_words.proofs.Apart.{words_of}
@@ -73,16 +73,17 @@ asks_apart program a p s pa pp ps =
 
 pub asks_for_waves_apart : SeparateWavesWordsAsk
 unfolding clap_on_literals
-asks_for_waves_apart program a p s t h pt =
-    asked_by (λ o. HasTracker o a p s t) (codes "waves") (built_as (codes "waves") waves_shape)
-    (waves_apart program a p s t) (archive_given a p s ((codes "tracker", t) ∷ [])) refl refl refl (
+asks_for_waves_apart program w levels h pt =
+    asked_by (λ o. HasWaves o w) (codes "waves") (built_as (codes "waves") waves_shape)
+    (waves_apart program w)
+    (archive_given w.archs w.packages w.sources ((codes "tracker", w.tracker) ∷ [])) refl refl
+    refl (
       refl,
       refl,
       h.archs_plain,
       (refl, refl, h.packages_plain, (refl, refl, h.sources_plain, (refl, refl, pt, tt))),
     )
-    (has_tracker _ _ _ _ _ (record { archs_path = refl; packages_path = refl; sources_path = refl })
-    refl)
+    (has_waves _ w (tracked _ _ _ _ _ refl refl refl refl) (sym levels))
 
 -- ---- track
 

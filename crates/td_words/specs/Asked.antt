@@ -8,13 +8,14 @@ use Rattle.td_words.specs.declared.request.ArchivePaths.{ArchivePaths}
 use Rattle.td_words.specs.declared.request.TrackRequest.{TrackRequest}
 use Rattle.td_words.specs.declared.request.RunRequest.{RunRequest}
 use Rattle.td_words.specs.declared.request.PlanRequest.{PlanRequest}
+use Rattle.td_words.specs.declared.request.WavesRequest.{WavesRequest}
 use Rattle.td_words.specs.declared.request.Request.{Request}
 use Rattle.td_words.specs.declared.request.Request.TheVariants.{Simulate, Check, Track, Waves}
 use Rattle.td_words.specs.declared.request.Request.TheVariants.{Plan, Run}
 use Rattle.td_words.specs.declared.request.WordsFault.{WordsFault}
 use Rattle.td_words.specs.declared.request.WordsFault.TheVariants.{Usage, NoMemory}
-use Rattle.td_words.specs.CommandLine.{HasFiles, HasRun, HasTrack, HasTracker, RunWords, TrackWords}
-use Rattle.td_words.specs.CommandLine.{chunk_in, desk, faults_of, name_in, rows_in}
+use Rattle.td_words.specs.CommandLine.{HasFiles, HasRun, HasTrack, HasWaves, RunWords, TrackWords}
+use Rattle.td_words.specs.CommandLine.{WavesWords, chunk_in, desk, faults_of, name_in, rows_in}
 use Rattle.td_words.specs.PlanWords.{HasPlan, PlanWords}
 use Rattle.td_words.specs.ShownWords.{shown_said}
 
@@ -28,6 +29,16 @@ track_words r = record {
   state = option_map string_bytes r.state;
   shown = r.shown;
   chunk = r.chunk;
+}
+
+-- what waves are asked for with, by the texts that say so
+abbrev pub waves_words : WavesRequest → WavesWords
+waves_words r = record {
+  archs = string_bytes r.files.archs;
+  packages = string_bytes r.files.packages;
+  sources = string_bytes r.files.sources;
+  tracker = string_bytes r.tracker;
+  form = r.form;
 }
 
 -- what a plan is asked for with, by the texts that say so
@@ -61,7 +72,7 @@ pub data RequestWords : Type 0 where
   simulation : RequestWords
   check_of : (archs packages sources : List ℕ) → RequestWords
   report_of : TrackWords → RequestWords
-  waves_of : (archs packages sources tracker : List ℕ) → RequestWords
+  waves_of : WavesWords → RequestWords
   plan_of : PlanWords → RequestWords
   run_of : RunWords → RequestWords
 
@@ -71,9 +82,7 @@ request_words Simulate = simulation
 request_words (Check files) =
     check_of (string_bytes files.archs) (string_bytes files.packages) (string_bytes files.sources)
 request_words (Track r) = report_of (track_words r)
-request_words (Waves files tracker) =
-    waves_of (string_bytes files.archs) (string_bytes files.packages) (string_bytes files.sources)
-    (string_bytes tracker)
+request_words (Waves r) = waves_of (waves_words r)
 request_words (Plan r) = plan_of (plan_words r)
 request_words (Run r) = run_of (run_words r)
 
@@ -84,9 +93,8 @@ IsGivenBy found (check_of archs packages sources) =
     (name_in found ≡ Some (codes "check")) × HasFiles (rows_in found) archs packages sources
 IsGivenBy found (report_of w) =
     (name_in found ≡ Some (codes "track")) × HasTrack (rows_in found) w
-IsGivenBy found (waves_of archs packages sources tracker) =
-    (name_in found ≡ Some (codes "waves"))
-    × HasTracker (rows_in found) archs packages sources tracker
+IsGivenBy found (waves_of w) =
+    (name_in found ≡ Some (codes "waves")) × HasWaves (rows_in found) w
 IsGivenBy found (plan_of w) = (name_in found ≡ Some (codes "plan")) × HasPlan (rows_in found) w
 IsGivenBy found (run_of w) = (name_in found ≡ Some (codes "run")) × HasRun (rows_in found) w
 

@@ -13,7 +13,8 @@ use Rattle.clap.specs.Simple.{App, Shape, new_app, new_rule, on_top, subcommand_
 use Rattle.clap.specs.Simple.{with_rule, with_subcommand}
 use Rattle.td_report.specs.Report.{all_shown}
 use Rattle.td_report.specs.declared.shown.Shown.{Shown}
-use Rattle.td_words.specs.ShownWords.{is_set, none_shown, shown_in, statuses_at}
+use Rattle.td_words.specs.declared.request.WavesForm.{WavesForm}
+use Rattle.td_words.specs.ShownWords.{form_in, is_set, none_shown, shown_in, statuses_at}
 
 -- an option that has to be there, once, with one value
 abbrev pub needed_option : List ℕ → Rule
@@ -49,9 +50,14 @@ check_shape = (with_explanation (with_archive_rules (new_app (codes "check")))).
 abbrev pub with_tracker_rules : App → App
 with_tracker_rules a = with_rule (with_archive_rules a) (needed_option (codes "tracker"))
 
+-- `waves` may be asked for steps, and for what each source builds on
+abbrev pub with_form_rules : App → App
+with_form_rules a =
+    with_rule (with_rule (with_tracker_rules a) (flag_of (codes "steps"))) (flag_of (codes "why"))
+
 -- the subcommand `waves`, which needs the files of an archive and a tracker
 abbrev pub waves_shape : Shape
-waves_shape = (with_explanation (with_tracker_rules (new_app (codes "waves")))).top
+waves_shape = (with_explanation (with_form_rules (new_app (codes "waves")))).top
 
 -- `track` may be given other rows, of which statuses rows are shown, and how many rows a chunk has
 abbrev pub with_report_rules : App → App
@@ -163,15 +169,27 @@ abbrev pub AskForCheck : List (List ℕ) → List ℕ → List ℕ → List ℕ 
 AskForCheck words archs packages sources =
     AskFor (codes "check") words × HasFiles (options_of words) archs packages sources
 
--- the options of `waves` have these paths
+-- the options of `track`, `waves` or `plan` have these paths
 pub record HasTracker (options : List Row) (archs packages sources tracker : List ℕ) : Type 0 where
   pub files : HasFiles options archs packages sources
   pub tracker_path : first_of (codes "tracker") options ≡ Some tracker
 
--- the words ask for the waves of these four files
-abbrev pub AskForWaves : List (List ℕ) → List ℕ → List ℕ → List ℕ → List ℕ → Type 0
-AskForWaves words archs packages sources tracker =
-    AskFor (codes "waves") words × HasTracker (options_of words) archs packages sources tracker
+-- what waves are asked for with
+pub record WavesWords : Type 0 where
+  pub archs : List ℕ
+  pub packages : List ℕ
+  pub sources : List ℕ
+  pub tracker : List ℕ
+  pub form : WavesForm
+
+-- the options of `waves` are these
+pub record HasWaves (options : List Row) (w : WavesWords) : Type 0 where
+  pub files : HasTracker options w.archs w.packages w.sources w.tracker
+  pub listed : form_in options ≡ w.form
+
+-- the words ask for these waves
+abbrev pub AskForWaves : List (List ℕ) → WavesWords → Type 0
+AskForWaves words w = AskFor (codes "waves") words × HasWaves (options_of words) w
 
 -- how many rows a piece of the report has: 1 to 1000000
 abbrev pub chunk_at : List ℕ → Option ℕ
@@ -297,11 +315,18 @@ archive_words archs packages sources rest =
     given (codes "archs") archs ∷ given (codes "packages") packages
     ∷ given (codes "sources") sources ∷ rest
 
+-- the words for the form of waves
+abbrev pub form_words : WavesForm → List (List ℕ)
+form_words form =
+    (if form.steps then codes "--steps" ∷ [] else [])
+    ++ (if form.why then codes "--why" ∷ [] else [])
+
 -- the words that ask for waves
-abbrev pub asking_for_waves : List ℕ → List ℕ → List ℕ → List ℕ → List ℕ → List (List ℕ)
-asking_for_waves program archs packages sources tracker =
+abbrev pub asking_for_waves : List ℕ → WavesWords → List (List ℕ)
+asking_for_waves program w =
     program ∷ codes "waves"
-    ∷ archive_words archs packages sources (given (codes "tracker") tracker ∷ [])
+    ∷ archive_words w.archs w.packages w.sources (given (codes "tracker") w.tracker
+    ∷ form_words w.form)
 
 -- the words that ask for a report, by what they say of a chunk
 abbrev pub asking_for_track : List ℕ → TrackWords → Option (List ℕ) → List (List ℕ)
@@ -347,12 +372,10 @@ pub record ShownWordsAsk : Type 0 where
       → AskForTrack (asking_for_shown program archs packages sources tracker
       (codes "--summary")) (shown_of archs packages sources tracker none_shown)
 
--- the words that ask for waves ask for them
+-- the words that ask for waves ask for them, in each form
 abbrev pub WavesWordsAsk : Type 0
 WavesWordsAsk =
-    (program archs packages sources tracker : List ℕ)
-    → AskForWaves (asking_for_waves program archs packages sources tracker) archs packages sources
-    tracker
+    (program : List ℕ) (w : WavesWords) → AskForWaves (asking_for_waves program w) w
 
 -- the words that ask for a run over only an archive
 abbrev pub asking_for_plain_run : List ℕ → List ℕ → List ℕ → List ℕ → List (List ℕ)
@@ -443,12 +466,11 @@ pub record TrackWordsExplain : Type 0 where
 
 -- the words of waves ask for them, and for an explanation if and only if `--explain` follows
 pub record WavesWordsExplain : Type 0 where
-  pub same : (program archs packages sources tracker : List ℕ) (explained : Bool)
-      → AskForWaves (asking_for_waves program archs packages sources tracker
-      ++ explaining explained) archs packages sources tracker
-  pub flag : (program archs packages sources tracker : List ℕ) (explained : Bool)
-      → is_explained (options_of
-      (asking_for_waves program archs packages sources tracker ++ explaining explained)) ≡ explained
+  pub same : (program : List ℕ) (w : WavesWords) (explained : Bool)
+      → AskForWaves (asking_for_waves program w ++ explaining explained) w
+  pub flag : (program : List ℕ) (w : WavesWords) (explained : Bool)
+      → is_explained (options_of (asking_for_waves program w ++ explaining explained))
+      ≡ explained
 
 -- the words of a plain run ask for it, and for an explanation if and only if `--explain` follows
 pub record RunWordsExplain : Type 0 where

@@ -54,7 +54,7 @@ line_words_said message = if can_be_quoted message then suite_said else message_
 
 -- ---- 2. the words that ask for it
 
--- with each value joined to its option, by what they say of a suite
+-- the words that ask for a plan, each value joined to its option, by what they say of a suite
 abbrev pub asking_for_plan : List ℕ → PlanWords → Option (List ℕ) → List (List ℕ)
 asking_for_plan program w suite =
     program ∷ codes "plan"
@@ -62,13 +62,13 @@ asking_for_plan program w suite =
     (given (codes "tracker") w.tracker ∷ given (codes "message") w.message
     ∷ (given_if (codes "state") w.state ++ given_if (codes "suite") suite))
 
--- they ask for it, with other rows or without, and with a suite or without
+-- these words ask for the plan, with other rows or without, and with a suite or without
 abbrev pub PlanWordsAsk : Type 0
 PlanWordsAsk =
     (program : List ℕ) (w : PlanWords) (suite : Option (List ℕ)) → suite_in suite ≡ w.suite
     → AreLineWords w.message w.suite → AskForPlan (asking_for_plan program w suite) w
 
--- with each value as a word of its own
+-- the words that ask for a plan, each value as a word of its own
 abbrev pub plan_apart : List ℕ → PlanWords → Option (List ℕ) → List (List ℕ)
 plan_apart program w suite =
     program ∷ codes "plan"
@@ -76,7 +76,7 @@ plan_apart program w suite =
     (apart (codes "tracker") w.tracker (apart (codes "message") w.message
     (apart_if (codes "state") w.state (apart_if (codes "suite") suite []))))
 
--- they ask for this plan, if no value is taken for an option
+-- words apart ask for this plan, if no value is taken for an option
 abbrev pub SeparatePlanWordsAsk : Type 0
 SeparatePlanWordsAsk =
     (program : List ℕ) (w : PlanWords) (suite : Option (List ℕ)) → suite_in suite ≡ w.suite

@@ -1,4 +1,4 @@
--- Which rows of a report the words ask for. This project's own.
+-- Which rows of a report the words ask for, and how affected sources are listed. This project's own.
 use Rattle.std.specs.Prelude.{◌≡◌, ◌||◌, ℕ, Bool, true, false, List, [], Option, Some, None, codes}
 use Rattle.std.specs.Prelude.{if◌then◌else◌}
 use Rattle.std.specs.List.{list_all, list_any}
@@ -10,11 +10,21 @@ use Rattle.td_query.specs.declared.status.Status.TheVariants.{Good, Bad, Partial
 use Rattle.td_query.specs.Statuses.{status_name}
 use Rattle.td_report.specs.Report.{all_shown}
 use Rattle.td_report.specs.declared.shown.Shown.{Shown}
+use Rattle.td_words.specs.declared.request.WavesForm.{WavesForm}
 
 -- whether an option without a value is among these; `clap` has its value as text
 abbrev pub is_set : List ℕ → List Row → Bool
 is_set name options =
     option_map_or (λ v. bytes_eq v (codes "true")) (first_of name options) false
+
+-- affected sources by levels, each by its name alone
+abbrev pub by_levels : WavesForm
+by_levels = record { steps = false; why = false }
+
+-- how affected sources are listed: by steps with `--steps`, with what each builds on with `--why`
+abbrev pub form_in : List Row → WavesForm
+form_in options =
+    record { steps = is_set (codes "steps") options; why = is_set (codes "why") options }
 
 -- a name is among those of a list with commas between
 abbrev pub is_listed : List ℕ → List ℕ → Bool

@@ -2,7 +2,9 @@
 use Rattle.std.specs.Prelude.{◌≡◌, ℕ, List, [], ◌∷◌, ◌++◌, Option, Some, None, codes}
 use Rattle.td_report.specs.Report.{all_shown}
 use Rattle.td_words.specs.CommandLine.{AskForRun, AskForTrack, AskForWaves, DeskValues, IsPlainPath}
-use Rattle.td_words.specs.CommandLine.{TrackWords, builders_at, chunk_in, plain_run, whole_run}
+use Rattle.td_words.specs.CommandLine.{TrackWords, WavesWords, builders_at, chunk_in, plain_run}
+use Rattle.td_words.specs.CommandLine.{whole_run}
+use Rattle.td_words.specs.ShownWords.{by_levels}
 
 -- `--NAME VALUE`, and the words after it
 abbrev pub apart : List ℕ → List ℕ → List (List ℕ) → List (List ℕ)
@@ -30,19 +32,18 @@ pub record ArePlain (archs packages sources : List ℕ) : Type 0 where
   pub packages_plain : IsPlainPath packages
   pub sources_plain : IsPlainPath sources
 
--- the words that ask for waves
-abbrev pub waves_apart : List ℕ → List ℕ → List ℕ → List ℕ → List ℕ → List (List ℕ)
-waves_apart program archs packages sources tracker =
+-- the words that ask for waves by levels
+abbrev pub waves_apart : List ℕ → WavesWords → List (List ℕ)
+waves_apart program w =
     program ∷ codes "waves"
-    ∷ archive_apart archs packages sources (apart (codes "tracker") tracker [])
+    ∷ archive_apart w.archs w.packages w.sources (apart (codes "tracker") w.tracker [])
 
 -- the words with each value apart ask for the waves, if no value is taken for an option
 abbrev pub SeparateWavesWordsAsk : Type 0
 SeparateWavesWordsAsk =
-    (program archs packages sources tracker : List ℕ) → ArePlain archs packages sources
-    → IsPlainPath tracker
-    → AskForWaves (waves_apart program archs packages sources tracker) archs packages sources
-    tracker
+    (program : List ℕ) (w : WavesWords) → w.form ≡ by_levels
+    → ArePlain w.archs w.packages w.sources → IsPlainPath w.tracker
+    → AskForWaves (waves_apart program w) w
 
 -- the words that ask for a report, by what they say of a chunk
 abbrev pub track_apart : List ℕ → TrackWords → Option (List ℕ) → List (List ℕ)

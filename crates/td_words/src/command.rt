@@ -7,7 +7,7 @@ ghost use Rattle.td_words.specs.CommandLine.{bare_desk, check_shape, desk, flag_
 ghost use Rattle.td_words.specs.CommandLine.{option_of, plan_shape, run_shape, simulate_shape};
 ghost use Rattle.td_words.specs.CommandLine.{track_shape, waves_shape, with_archive_rules};
 ghost use Rattle.td_words.specs.CommandLine.{with_crew_rules, with_desk_rules, with_explanation};
-ghost use Rattle.td_words.specs.CommandLine.{with_plan_rules, with_report_rules};
+ghost use Rattle.td_words.specs.CommandLine.{with_form_rules, with_plan_rules, with_report_rules};
 ghost use Rattle.td_words.specs.CommandLine.{with_tracker_rules};
 
 use clap::{Arg, ArgAction, Command};
@@ -133,6 +133,11 @@ which they can be rebuilt:
   level K
   SOURCE
   cyclic
+With --steps it has them by steps. Sources that build on one another are on one line:
+  step K
+  SOURCE SOURCE
+With --why each source has a line, with the sources on which it builds and a package of each:
+  SOURCE: BASE PACKAGE, BASE PACKAGE
 Nothing is printed where a file isn't of its form; standard error names it.
 
 docs/FORMATS.md says exactly what is read and printed.";
@@ -224,6 +229,19 @@ fn with_tracker<'a>(alloc: Global, command: Command<'a>) -> Result<Command<'a>, 
     with_file(alloc, command, "tracker", TRACKER)
 }
 
+// The command with the files of a tracker, and how affected sources are listed.
+fn with_form<'a>(alloc: Global, command: Command<'a>) -> Result<Command<'a>, AllocError>
+    ensures app { IfOk result (λ c. app_of c ≡ with_form_rules (app_of command.entry)) }
+    ensures globals { (out-Command command.entry).has_globals ≡ false
+        → IfOk result (λ c. (out-Command c).has_globals ≡ false) }
+{
+    let command = with_tracker(alloc, command)?;
+    let steps = "List the sources by steps, and those that build on one another on one line";
+    let why = "Print after each source what it builds on, and by which package";
+    let command = with_flag(alloc, command, "steps", steps)?;
+    with_flag(alloc, command, "why", why)
+}
+
 fn waves<'a>(alloc: Global) -> Result<Command<'a>, AllocError>
     ensures shape { IfOk result (λ c. shape_of c ≡ waves_shape) }
     ensures globals { IfOk result (λ c. (out-Command c).has_globals ≡ false) }
@@ -231,7 +249,7 @@ fn waves<'a>(alloc: Global) -> Result<Command<'a>, AllocError>
     let command = Command::new(alloc, "waves")
         .about("List the sources of a transition by the levels in which they can be rebuilt")
         .after_help(WAVES);
-    let command = with_tracker(alloc, command)?;
+    let command = with_form(alloc, command)?;
     explained(alloc, command)
 }
 
@@ -264,8 +282,8 @@ fn track<'a>(alloc: Global) -> Result<Command<'a>, AllocError>
 
 const PLAN: &str = "\
 The files are read whole. Standard output has a script: lines that rebuild what the tracker calls
-bad or partial, each source under one number, in an order in which they can be built, and that say
-what each row waits for:
+bad or partial, each source under one number and step by step, and that say what each row waits
+for:
   # tracker TITLE
   # step K
   nmu N SOURCE_VERSION . ARCH.. . SUITE . -m \"TEXT\"
@@ -278,7 +296,7 @@ Nothing is printed where a file isn't of its form; standard error names it.
 
 docs/FORMATS.md says exactly what is read and printed.";
 
-// The same command with the files of a tracker, and what a plan's lines say besides.
+// The command with the files of a tracker, and with the options of a plan.
 fn with_plan<'a>(alloc: Global, command: Command<'a>) -> Result<Command<'a>, AllocError>
     ensures app { IfOk result (λ c. app_of c ≡ with_plan_rules (app_of command.entry)) }
     ensures globals { (out-Command command.entry).has_globals ≡ false

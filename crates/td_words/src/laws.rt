@@ -32,7 +32,8 @@ pub fn words_of_a_track_ask_for_it()
     ensures shown { ShownWordsAsk }
 {}
 
-/// The words of waves ask for them, with each value joined to its option or as a word of its own.
+/// The words of waves ask for them, by levels or by steps, and with what each source builds on or
+/// without. If they ask for levels alone, each value may be a word of its own.
 pub fn words_of_waves_ask_for_them()
     ensures joined { WavesWordsAsk }
     ensures separate { SeparateWavesWordsAsk }

@@ -23,5 +23,6 @@ pub use laws::{
 };
 pub use line_words::LineWords;
 pub use request::{
-    ArchivePaths, Call, PlanRequest, Request, RunRequest, TrackRequest, WordsFault, read_words,
+    ArchivePaths, Call, PlanRequest, Request, RunRequest, TrackRequest, WavesForm, WordsFault,
+    read_words,
 };

@@ -43,7 +43,8 @@ fn judged(message: &str, suite: &str) -> Result<(), WordFault>
     }
 }
 
-// A message with a suite, where lines can have both; else what is said of the first that none can.
+// A message with a suite if lines can have both, or else what is said of the first that no line can
+// have.
 fn line_words(alloc: Global, message: String, suite: String) -> Result<LineWords, WordsFault>
     ensures message { IfOk result (λ words. words.message ≡ message) }
     ensures suite { IfOk result (λ words. words.suite ≡ suite) }
@@ -57,7 +58,7 @@ fn line_words(alloc: Global, message: String, suite: String) -> Result<LineWords
     }
 }
 
-// Those that the matches of `plan` have.
+// The message and the suite that the matches of `plan` have.
 fn words_in(alloc: Global, matches: &ArgMatches<'_>) -> Result<LineWords, WordsFault>
     ensures message { IfOk result (λ words.
         first_of (codes "message") (rows_of (found_of matches.now))

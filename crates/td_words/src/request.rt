@@ -7,13 +7,13 @@ ghost use Rattle.clap.specs.Simple.{subcommand_rows_of};
 ghost use Rattle.clap.specs.Walk.{first_of, rows_of};
 ghost use Rattle.td_words.specs.CommandLine.{AskFor, AskForCheck, AskForRun, AskForTrack};
 ghost use Rattle.td_words.specs.CommandLine.{AskForWaves, HasFiles, HasRun, HasTrack, HasTracker};
-ghost use Rattle.td_words.specs.CommandLine.{RunWords, TrackWords, is_explained, name_in};
-ghost use Rattle.td_words.specs.CommandLine.{options_of, rows_in};
+ghost use Rattle.td_words.specs.CommandLine.{HasWaves, RunWords, TrackWords, WavesWords};
+ghost use Rattle.td_words.specs.CommandLine.{is_explained, name_in, options_of, rows_in};
 ghost use Rattle.td_words.specs.Asked.{AreFilesIn, AreFilesOf, Asks, IsGivenBy, IsUsage, call_as};
 ghost use Rattle.td_words.specs.Asked.{builders_said, check_of, plan_of, report_of, request_words};
 ghost use Rattle.td_words.specs.Asked.{run_of, track_said, waves_of};
 ghost use Rattle.td_words.specs.PlanWords.{AskForPlan, HasPlan, PlanWords, line_words_said};
-ghost use Rattle.td_words.specs.ShownWords.{is_set as is_set_in};
+ghost use Rattle.td_words.specs.ShownWords.{form_in as form_in_of, is_set as is_set_in};
 
 use crate::command::command;
 use crate::line_words::LineWords;
@@ -45,6 +45,23 @@ pub struct TrackRequest {
     pub chunk: Option<usize>,
 }
 
+/// How affected sources are listed.
+#[derive(Clone, Copy, Drop)]
+pub struct WavesForm {
+    /// By steps, part by part; else by levels.
+    pub steps: bool,
+    /// Each with what it builds on.
+    pub why: bool,
+}
+
+/// The affected sources over these files.
+#[derive(Drop)]
+pub struct WavesRequest {
+    pub files: ArchivePaths,
+    pub tracker: String,
+    pub form: WavesForm,
+}
+
 /// A plan over these files.
 #[derive(Drop)]
 pub struct PlanRequest {
@@ -52,7 +69,7 @@ pub struct PlanRequest {
     pub tracker: String,
     /// Rows to use instead of those that the indices say.
     pub state: Option<String>,
-    /// What its lines say besides.
+    /// The message and the suite of its lines.
     pub words: LineWords,
 }
 
@@ -81,11 +98,7 @@ pub enum Request {
     /// The sources, binaries and rows of these files are counted.
     Check(ArchivePaths),
     Track(TrackRequest),
-    /// The sources that the tracker affects are listed by levels.
-    Waves {
-        files: ArchivePaths,
-        tracker: String,
-    },
+    Waves(WavesRequest),
     Plan(PlanRequest),
     /// The script is on standard input.
     Run(RunRequest),
@@ -220,18 +233,28 @@ pub(crate) fn given_in(
 }
 
 // The waves that the matches of `waves` ask for.
+// How the matches of `waves` ask for affected sources to be listed.
+fn form_in(matches: &ArgMatches<'_>) -> WavesForm
+    ensures { result ≡ form_in_of (rows_of (found_of matches.now)) }
+{
+    WavesForm {
+        steps: is_set(matches, "steps"),
+        why: is_set(matches, "why"),
+    }
+}
+
+// The waves that the matches of `waves` ask for.
 fn waves_in(alloc: Global, matches: &ArgMatches<'_>) -> Result<Request, WordsFault>
-    ensures waves { (archs packages sources tracker : List ℕ)
-        → HasTracker (rows_of (found_of matches.now)) archs packages sources tracker
-        → MatchResult result (λ r. request_words r ≡ waves_of archs packages sources tracker)
-        (λ e. e ≡ WordsFault.NoMemory) }
+    ensures waves { (w : WavesWords) → HasWaves (rows_of (found_of matches.now)) w
+        → MatchResult result (λ r. request_words r ≡ waves_of w) (λ e. e ≡ WordsFault.NoMemory) }
     ensures only { IfOk result (λ r. IsGivenBy
         (Some (codes "waves", rows_of (found_of matches.now))) (request_words r)) }
 {
-    Ok(Request::Waves {
+    Ok(Request::Waves(WavesRequest {
         files: archive_in(alloc, matches)?,
         tracker: needed_in(alloc, matches, "tracker")?,
-    })
+        form: form_in(matches),
+    }))
 }
 
 // A subcommand is required, and each is listed here: others come only if `clap` broke a promise.
@@ -248,11 +271,10 @@ fn request_in(alloc: Global, matches: &ArgMatches<'_>) -> Result<Request, WordsF
         → HasTrack (rows_in (subcommand_rows_of matches.now)) w
         → MatchResult result (λ r. request_words r ≡ report_of w)
         (λ e. e ≡ WordsFault.NoMemory) }
-    ensures waves { (archs packages sources tracker : List ℕ)
+    ensures waves { (w : WavesWords)
         → name_in (subcommand_rows_of matches.now) ≡ Some (codes "waves")
-        → HasTracker (rows_in (subcommand_rows_of matches.now)) archs packages sources tracker
-        → MatchResult result (λ r. request_words r ≡ waves_of archs packages sources tracker)
-        (λ e. e ≡ WordsFault.NoMemory) }
+        → HasWaves (rows_in (subcommand_rows_of matches.now)) w
+        → MatchResult result (λ r. request_words r ≡ waves_of w) (λ e. e ≡ WordsFault.NoMemory) }
     ensures plan { (w : PlanWords)
         → name_in (subcommand_rows_of matches.now) ≡ Some (codes "plan")
         → HasPlan (rows_in (subcommand_rows_of matches.now)) w
@@ -330,23 +352,21 @@ pub fn read_words(alloc: Global, words: &[String]) -> Result<Call, WordsFault>
         → AskFor (codes "track") (map string_bytes words.now)
         → HasTracker (options_of (map string_bytes words.now)) archs packages sources tracker
         → IfErr result (λ e. IsUsage e (track_said (options_of (map string_bytes words.now)))) }
-    // So are words that ask for waves.
-    ensures waves { (archs packages sources tracker : List ℕ)
-        → AskForWaves (map string_bytes words.now) archs packages sources tracker
-        → MatchResult result (λ c. request_words c.request
-        ≡ waves_of archs packages sources tracker)
+    // Words that ask for waves are answered by them, unless memory runs out.
+    ensures waves { (w : WavesWords) → AskForWaves (map string_bytes words.now) w
+        → MatchResult result (λ c. request_words c.request ≡ waves_of w)
         (λ e. e ≡ WordsFault.NoMemory) }
-    // So are words that ask for a plan.
+    // Words that ask for a plan are answered by it, unless memory runs out.
     ensures plan { (w : PlanWords) → AskForPlan (map string_bytes words.now) w
         → MatchResult result (λ c. request_words c.request ≡ plan_of w)
         (λ e. e ≡ WordsFault.NoMemory) }
-    // Where only the message or the suite is wrong, that is said.
+    // If only the message or the suite is wrong, the fault says which.
     ensures plan_said { (archs packages sources tracker message : List ℕ)
         → AskFor (codes "plan") (map string_bytes words.now)
         → HasTracker (options_of (map string_bytes words.now)) archs packages sources tracker
         → first_of (codes "message") (options_of (map string_bytes words.now)) ≡ Some message
         → IfErr result (λ e. IsUsage e (line_words_said message)) }
-    // And words that ask for a run.
+    // Words that ask for a run are answered by it, unless memory runs out.
     ensures run { (w : RunWords) → AskForRun (map string_bytes words.now) w
         → MatchResult result (λ c. request_words c.request ≡ run_of w)
         (λ e. e ≡ WordsFault.NoMemory) }

@@ -3,6 +3,7 @@
 import re
 
 from desk import Row
+from parts import parts_and_steps
 from versions import compare, equal, matches, read_relation, split_rebuild
 
 NAME_BYTES = "abcdefghijklmnopqrstuvwxyz0123456789+.-"
@@ -110,9 +111,9 @@ class Archive:
             return None
         return "partial" if good and bad else "good" if good else "bad" if bad else "unknown"
 
-    def builds_on(self, source):
-        """The other sources that a source builds on."""
-        found = set()
+    def bases(self, source):
+        """The other sources that a source builds on, each with the packages by which it does."""
+        found = {}
         texts = [self.sources[source].fields.get(name, "") for name in ("Build-Depends", "Build-Depends-Arch")]
         for _, name in (key for key in self.keys() if key[0] == source):
             arch = next(arch for arch in self.archs if arch[0] == name)
@@ -121,13 +122,19 @@ class Archive:
             for package in self.binaries.values():
                 offered = {package.name} | {provided for provided, _ in package.provides}
                 if package.arch in (name, "all") and package.source != source and offered & asked:
-                    found.add(package.source)
+                    found.setdefault(package.source, set()).add(package.name)
         return found
+
+    def affected(self, tracker):
+        """What each affected source builds on among these, with the packages by which it does."""
+        names = sorted({key[0] for key in self.keys() if self.status(tracker, key)})
+        return {source: {base: packages for base, packages in self.bases(source).items() if base in names}
+                for source in names}
 
     def levels(self, tracker):
         """The affected sources, each with its level, or None where it is cyclic."""
-        affected = sorted({key[0] for key in self.keys() if self.status(tracker, key)})
-        needs = {source: self.builds_on(source) & set(affected) for source in affected}
+        needs = {source: set(bases) for source, bases in self.affected(tracker).items()}
+        affected = sorted(needs)
         levels, level = {}, 0
         while True:
             level += 1
@@ -147,6 +154,31 @@ class Archive:
     def waves(self, tracker):
         """The lines of `waves`."""
         return [line for head, sources in self.blocks(tracker) for line in [head] + sources]
+
+    def why(self, tracker):
+        """For each affected source its line with what it builds on."""
+        lines = {}
+        for source, bases in self.affected(tracker).items():
+            reasons = [f"{base} {min(packages)}" for base, packages in sorted(bases.items())]
+            lines[source] = f"{source}: {', '.join(reasons)}" if reasons else source
+        return lines
+
+    def waves_why(self, tracker):
+        """The lines of `waves --why`."""
+        why = self.why(tracker)
+        return [line for head, sources in self.blocks(tracker)
+                for line in [head] + [why[source] for source in sources]]
+
+    def steps(self, tracker, why=False):
+        """The lines of `waves --steps`, or with `--why` too."""
+        part, step = parts_and_steps({source: set(bases) for source, bases in self.affected(tracker).items()})
+        reasons, lines, last = self.why(tracker), [], None
+        for members in sorted(set(part.values()), key=lambda members: (step[members[0]], members)):
+            if step[members[0]] != last:
+                last = step[members[0]]
+                lines.append(f"step {last}")
+            lines += [reasons[source] for source in members] if why else [" ".join(members)]
+        return lines
 
     def report(self, tracker, rows, shown=STATUSES):
         """The lines of a report over these rows that shows those of some statuses."""

@@ -2,6 +2,7 @@
 
 import functools
 
+from parts import parts_and_steps
 from versions import MOST, base_text, equal, read_relation, read_version, split_rebuild
 
 UNDER_WAY = ("Needs-Build", "Building", "Built", "Uploaded", "Dep-Wait")
@@ -125,19 +126,7 @@ class Plan:
         nodes = sorted({name for name, _ in self.moving})
         bases = {name: {other for other in nodes if any(
             self.builds_there(name, other, arch) for arch in self.archive.names)} for name in nodes}
-        reach = {name: set(bases[name]) for name in nodes}
-        for through in nodes:
-            for name in nodes:
-                if through in reach[name]:
-                    reach[name] |= reach[through]
-        self.part = {name: tuple(other for other in nodes if other == name or (
-            other in reach[name] and name in reach[other])) for name in nodes}
-
-        @functools.lru_cache(None)
-        def step(part):
-            below = {self.part[base] for name in part for base in bases[name]} - {part}
-            return 1 + max((step(other) for other in below), default=0)
-        self.step = {name: step(self.part[name]) for name in nodes}
+        self.part, self.step = parts_and_steps(bases)
         self.nodes = nodes
 
     # ---- waits

@@ -37,11 +37,9 @@ returns g c =
           λ w asks.
           tracked words known left bytes can_fail reads writes old new before said status asked
           explained w ran told flag (c.read_words.ensures.track w asks);
-      waves = λ archs packages sources tracker asks.
+      waves = λ w asks.
           waved words known left bytes can_fail reads writes old new before said status asked
-          explained archs packages
-          sources tracker ran told flag
-          (c.read_words.ensures.waves archs packages sources tracker asks);
+          explained w ran told flag (c.read_words.ensures.waves w asks);
       plan =
           λ w asks.
           planned words known left bytes can_fail reads writes old new before said status asked

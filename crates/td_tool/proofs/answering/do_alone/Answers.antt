@@ -1,12 +1,17 @@
 -- `do_alone`: its clauses.
 use Rattle.std.proofs.Common.{◌≡◌, rules, string_bytes, sym, subst}
+use Rattle.td_words.specs.Asked.{waves_words}
 use Rattle.td_words.specs.declared.request.Request.{Request}
 use Rattle.td_tool.specs.declared.ending.Ending.{Ending}
 use Rattle.td_tool.specs.Explained.{known_of_request}
-use Rattle.td_tool.specs.Program.{EndsFor, HasNoBuilders}
+use Rattle.td_tool.specs.Program.{EndsFor, HasNoBuilders, waves_files}
 use Rattle.td_tool.specs.Streams.{IsDue}
+use Rattle.td_tool.specs.TrackInside.{asked_of, saying_of}
+use Rattle.td_tool.specs.Tracks.{EndsSo, Saying}
+use Rattle.td_tool.specs.declared.tracking.Asked.{Asked}
 use Rattle.td_tool.proofs.Dues.{check_due, steady_alone, track_due}
 use Rattle.td_tool.proofs.Explanations.{ends_alone, kept_alone, short_alone}
+use Rattle.td_tool.proofs.Ordered.{asked_says}
 use Rattle.td_tool.proofs.answering.do_alone.Goals as goal
 
 pub returns-in-Check-clause-ends : goal.returns-in-Check-clause-ends
@@ -50,14 +55,24 @@ returns-in-Track-clause-short g c =
 
 pub returns-in-Waves-clause-ends : goal.returns-in-Waves-clause-ends
 returns-in-Waves-clause-ends g c =
+    let bytes = g.T.Texts.bytes c.args.texts.now in
+    let can_fail = g.T.Texts.can_fail c.args.texts.now in
+    let old = g.W.Write.contents c.args.output.now in
+    let new = g.W.Write.contents c.track-in-Waves.new.output in
     let Says : Request → Ending → Type 0 =
     λ q ending. EndsFor q (g.R.Read.remaining c.args.reader.now)
-    (g.R.Read.remaining c.args.reader.now) (g.T.Texts.bytes c.args.texts.now)
-    (g.T.Texts.can_fail c.args.texts.now) (g.W.Write.contents c.args.output.now)
-    (g.W.Write.contents c.track-in-Waves.new.output) ending in
+    (g.R.Read.remaining c.args.reader.now) bytes can_fail old new ending in
+    let form = c.in-Waves.request.form in
+    let Holds : Saying → Type 0 =
+    λ said. EndsSo said (waves_files bytes can_fail (waves_words c.in-Waves.request)) old new
+    c.track-in-Waves.result in
+    let asked : Holds (saying_of (asked_of form)) =
+    subst (λ (a : Asked). Holds (saying_of a)) c.asked_by-asked.ensures
+    c.track-in-Waves.ensures.ends in
     ends_alone (Says c.args.request.now) c.track-in-Waves.result c.alone-in-Waves.result
     c.alone-in-Waves.ensures
-    (subst (λ q. Says q c.track-in-Waves.result) (sym c.in-Waves.is) c.track-in-Waves.ensures.ends)
+    (subst (λ q. Says q c.track-in-Waves.result) (sym c.in-Waves.is)
+    (asked_says Holds form asked))
 
 pub returns-in-Waves-clause-kept : goal.returns-in-Waves-clause-kept
 returns-in-Waves-clause-kept g c =

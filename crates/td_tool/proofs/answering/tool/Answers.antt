@@ -1,17 +1,17 @@
 -- `tool`: its clauses.
-use Rattle.std.proofs.Common.{None, IfOk, codes, map, string_bytes, sym, subst}
-use Rattle.td_report.specs.Transition.{IsReportOf, IsWaves}
+use Rattle.std.proofs.Common.{IfOk, codes, map, string_bytes, sym, subst}
+use Rattle.td_report.specs.Transition.{IsReportOf}
 use Rattle.td_words.specs.CommandLine.{AskFor, AskForCheck, AskForRun, AskForTrack, AskForWaves}
 use Rattle.td_words.specs.PlanWords.{AskForPlan}
 use Rattle.td_tool.specs.Checks.{Checks, files_of}
 use Rattle.td_tool.specs.Ends.{Ends}
 use Rattle.td_tool.specs.Explained.{archive_paths, known_at, known_input, plan_paths, run_paths}
 use Rattle.td_tool.specs.Explained.{track_paths, waves_paths}
-use Rattle.td_tool.specs.Program.{OnlyIfAsked, files_asked, plan_files, words_asked}
+use Rattle.td_tool.specs.Program.{OnlyIfAsked, files_asked, plan_files, waves_files, words_asked}
 use Rattle.td_tool.specs.Ran.{Ran}
 use Rattle.td_tool.specs.Runs.{EndsRun, run_files_asked}
 use Rattle.td_tool.specs.Streams.{DueTo}
-use Rattle.td_tool.specs.Tracks.{EndsSo, IsPlanWith, track_files}
+use Rattle.td_tool.specs.Tracks.{EndsSo, IsPlanWith, waves_says}
 use Rattle.td_tool.proofs.Asks.{of_given}
 use Rattle.td_tool.proofs.answering.tool.Goals as goal
 
@@ -53,17 +53,17 @@ returns-in-Ok-clause-track g c = λ w.
     (c.answer.ensures.track w)
 
 pub returns-in-Ok-clause-waves : goal.returns-in-Ok-clause-waves
-returns-in-Ok-clause-waves g c = λ archs packages sources tracker.
-    of_given (λ l. AskForWaves l archs packages sources tracker) (λ b. Ran
+returns-in-Ok-clause-waves g c = λ w.
+    of_given (λ l. AskForWaves l w) (λ b. Ran
     (DueTo (g.R.Reader.can_fail c.args.reader.now) (g.W.Writer.can_fail c.args.output.now)
-    (EndsSo IsWaves (track_files (g.T.Texts.bytes c.args.texts.now)
-    (g.T.Texts.can_fail c.args.texts.now) archs packages sources None tracker)
-    (g.W.Write.contents c.args.output.now) (g.W.Write.contents c.answer.new.output)))
-    b (known_at (g.T.Texts.bytes c.args.texts.now) (waves_paths archs packages sources tracker))
+    (EndsSo (waves_says w.form) (waves_files (g.T.Texts.bytes c.args.texts.now)
+    (g.T.Texts.can_fail c.args.texts.now) w) (g.W.Write.contents c.args.output.now)
+    (g.W.Write.contents c.answer.new.output)))
+    b (known_at (g.T.Texts.bytes c.args.texts.now) (waves_paths w))
     (g.E.Write.contents c.args.faults.now) (g.E.Write.contents c.answer.new.faults)
     c.answer.result)
     c.args.words c.in-Ok.words c.deref.result.now c.in-Ok.is c.deref.ensures.value
-    (c.answer.ensures.waves archs packages sources tracker)
+    (c.answer.ensures.waves w)
 
 pub returns-in-Ok-clause-plan : goal.returns-in-Ok-clause-plan
 returns-in-Ok-clause-plan g c = λ w.

@@ -17,3 +17,10 @@ returns-in-Planned g c =
     subst (λ a. IfOk c.opened_plan.result (λ said. IfSome o.tracker (λ given.
     GivenSays (saying_of a) o.archive.now o.rows (tracking given.now.tracker)
     (string_bytes said)))) (sym c.in-Planned.is) c.opened_plan.ensures
+
+pub returns-in-Ordered : goal.returns-in-Ordered
+returns-in-Ordered g c =
+    let o = c.args.opened in
+    subst (λ a. IfOk c.opened_order.result (λ said. IfSome o.tracker (λ given.
+    GivenSays (saying_of a) o.archive.now o.rows (tracking given.now.tracker)
+    (string_bytes said)))) (sym c.in-Ordered.is) c.opened_order.ensures

@@ -7,8 +7,8 @@ use Rattle.std.proofs.lemmas.Result.{IfOk-weaker}
 use Rattle.clap.specs.Faults.{fault_of}
 use Rattle.clap.specs.Simple.{subcommand_rows_of}
 use Rattle.clap.specs.Walk.{first_of}
-use Rattle.td_words.specs.CommandLine.{HasFiles, HasRun, HasTrack, HasTracker, is_explained}
-use Rattle.td_words.specs.CommandLine.{name_in, options_of, rows_in}
+use Rattle.td_words.specs.CommandLine.{HasFiles, HasRun, HasTrack, HasTracker, HasWaves}
+use Rattle.td_words.specs.CommandLine.{is_explained, name_in, options_of, rows_in}
 use Rattle.td_words.specs.PlanWords.{HasPlan, line_words_said}
 use Rattle.td_words.specs.Asked.{Asks, IsGivenBy, check_of, plan_of, report_of, request_words}
 use Rattle.td_words.specs.Asked.{run_of, waves_of}
@@ -50,15 +50,15 @@ returns-in-Ok-clause-track c w asking =
     (subst (λ o. HasTrack (rows_in o) w) (sym rows) asking.1))
 
 pub returns-in-Ok-clause-waves : goal.returns-in-Ok-clause-waves
-returns-in-Ok-clause-waves c archs packages sources tracker asking =
+returns-in-Ok-clause-waves c w asking =
     let m = c.in-Ok.matches in
     let texts = map string_bytes c.args.words.now in
     let rows = rows_are_asked _ m texts c.in_ok-command.ensures c.in-Ok.ensures.matches in
-    holds_of_call (λ r. request_words r ≡ waves_of archs packages sources tracker)
-    (λ e. e ≡ NoMemory) c.request_in.result c.is_explained_in.result c.call_of.result
-    c.call_of.ensures
-    (c.request_in.ensures.waves archs packages sources tracker (ap name_in rows ∙ asking.0.1)
-    (subst (λ o. HasTracker (rows_in o) archs packages sources tracker) (sym rows) asking.1))
+    holds_of_call (λ r. request_words r ≡ waves_of w) (λ e. e ≡ NoMemory)
+    c.request_in.result c.is_explained_in.result
+    c.call_of.result c.call_of.ensures
+    (c.request_in.ensures.waves w (ap name_in rows ∙ asking.0.1)
+    (subst (λ o. HasWaves (rows_in o) w) (sym rows) asking.1))
 
 pub returns-in-Ok-clause-run : goal.returns-in-Ok-clause-run
 returns-in-Ok-clause-run c w asking =
@@ -110,7 +110,7 @@ returns-in-Err-clause-track c w asking =
     c.in_ok-command.ensures asking.0.0 c.in-Err.ensures.kinds)
 
 pub returns-in-Err-clause-waves : goal.returns-in-Err-clause-waves
-returns-in-Err-clause-waves c archs packages sources tracker asking =
+returns-in-Err-clause-waves c w asking =
     c.fault_of.ensures (only_memory _ (map string_bytes c.args.words.now) c.in-Err.error
     c.in_ok-command.ensures asking.0.0 c.in-Err.ensures.kinds)
 

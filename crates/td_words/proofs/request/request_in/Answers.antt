@@ -1,7 +1,7 @@
 -- `request_in`: its clauses.
 use Rattle.std.proofs.Common.{◌≡◌, IfErr, Some, codes, subst, sym}
 use Rattle.clap.specs.Walk.{first_of}
-use Rattle.td_words.specs.CommandLine.{HasFiles, HasRun, HasTrack, HasTracker}
+use Rattle.td_words.specs.CommandLine.{HasFiles, HasRun, HasTrack, HasTracker, HasWaves}
 use Rattle.td_words.specs.Asked.{IsUsage, track_said}
 use Rattle.td_words.specs.PlanWords.{HasPlan}
 use Rattle.td_words.proofs.Asking.{rows_of_matches}
@@ -22,9 +22,9 @@ returns-in-Some-3-clause-track c w named has =
     c.subcommand.ensures.rows) has)
 
 pub returns-in-Some-4-clause-waves : goal.returns-in-Some-4-clause-waves
-returns-in-Some-4-clause-waves c archs packages sources tracker named has =
-    c.waves_in.ensures.waves archs packages sources tracker
-    (subst (λ options. HasTracker options archs packages sources tracker)
+returns-in-Some-4-clause-waves c w named has =
+    c.waves_in.ensures.waves w
+    (subst (λ options. HasWaves options w)
     (rows_of_matches c.args.matches.now c.subcommand.result _ c.in-Some.is
     c.subcommand.ensures.rows) has)
 

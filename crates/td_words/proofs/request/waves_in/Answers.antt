@@ -3,6 +3,7 @@ use Rattle.std.proofs.lemmas.Result.{err_from_is_err_and}
 use Rattle.td_words.proofs.request.waves_in.Goals as goal
 
 pub returns-in_err-archive_in-clause-waves : goal.returns-in_err-archive_in-clause-waves
-returns-in_err-archive_in-clause-waves c archs packages sources tracker has =
+returns-in_err-archive_in-clause-waves c w has =
     let p = err_from_is_err_and c.from_residual.result c.from_residual.ensures.1 in
-    rw (p.1, p.2) (c.in_err-archive_in.ensures.files archs packages sources has.files)
+    rw (p.1, p.2)
+    (c.in_err-archive_in.ensures.files w.archs w.packages w.sources has.files.files)
