@@ -47,7 +47,7 @@ fold-some name best [] h = h
 fold-some name best (x ∷ xs) h =
     fold-some name (earlier name best x) xs (earlier-some name best x)
 
-first-some : {A : Type 0} (name : A → List ℕ) (xs : List A) (x : A) → Contains xs x
+pub first-some : {A : Type 0} (name : A → List ℕ) (xs : List A) (x : A) → Contains xs x
     → is_some (fold (earlier name) None xs) ≡ true
 first-some name [] x h = let low = h.1 in absurd (omega arith)
 first-some name (y ∷ ys) x h = fold-some name (Some y) ys refl

@@ -103,3 +103,10 @@ pub mod LevelSources
 pub mod LevelLines
 pub mod LevelsOf
 pub mod OneSteps
+pub mod SourceOrder
+pub mod LineOrder
+pub mod LinesThere
+pub mod AwaitedSources
+pub mod FirstPackages
+pub mod WaitLines
+pub mod StepComments

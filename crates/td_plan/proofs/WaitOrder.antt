@@ -116,7 +116,7 @@ module _ (p : Premises) (place : ℕ) (s t : KeptSource) (w : spec.Wait) where
       by (Some b) at one = let of = present-is b at in written b false of.0 of.1 of.2 one
 
 -- waits for two sources are for packages of different names
-waits-apart : (p : Premises) → PackagesAreApart p → (place : ℕ) (t u : KeptSource)
+pub waits-apart : (p : Premises) → PackagesAreApart p → (place : ℕ) (t u : KeptSource)
     (v w : spec.Wait) → IsFor p place t v → IsFor p place u w
     → (is_source_before t u ≡ true) ⊎ (is_source_before u t ≡ true) → ¬ (v.name ≡ w.name)
 waits-apart p apart place t u v w mine its way same =

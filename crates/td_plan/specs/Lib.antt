@@ -24,5 +24,8 @@ pub mod ReadingLaws
 pub mod PlayLaws
 pub mod PlanReading
 pub mod ToldLaws
+pub mod LineLaws
+pub mod AwaitedLaws
+pub mod CommentLaws
 pub mod SoundLaws
 pub mod inner

@@ -14,6 +14,7 @@ mod affected;
 mod asks;
 mod bases;
 mod commands;
+mod comment_laws;
 mod comments;
 mod due;
 mod inputs;
@@ -39,6 +40,7 @@ mod versions;
 mod waits;
 mod words;
 
+pub use comment_laws::{steps_have_comments, waits_have_lines};
 pub use inputs::Inputs;
 pub use laws::{
     plan_comments_are_skipped, plan_lines_are_read, plan_relations_are_read, plans_are_read,
@@ -50,8 +52,9 @@ pub use part_laws::{
 pub use parts::{Parts, parts_of};
 pub use plan::Plan;
 pub use plan_laws::{
-    due_rows_are_waited_for, plans_are_taken_whole, plans_are_undone, rebuilds_are_of_due_sources,
-    rows_are_held, rows_are_released, rows_are_told_once, sources_build_somewhere,
+    due_rows_are_waited_for, lines_are_in_order, lines_are_there, plans_are_taken_whole,
+    plans_are_undone, rebuilds_are_of_due_sources, rows_are_held, rows_are_released,
+    rows_are_told_once, sources_build_somewhere, waits_are_all, waits_are_for_first_packages,
     waits_are_read_again, waits_lead_down,
 };
 pub use row_laws::{

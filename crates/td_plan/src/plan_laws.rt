@@ -1,5 +1,8 @@
 //! What holds of every plan, as theorems over its definition.
+ghost use Rattle.td_plan.specs.AwaitedLaws.{NoWaitsAreRight, WaitsAreAll, WaitsAreForFirsts};
 ghost use Rattle.td_plan.specs.BuildsThere.{SourcesBuildSomewhere};
+ghost use Rattle.td_plan.specs.LineLaws.{LeftLinesAreThere, NmuLinesAreInOrder, NmuLinesAreThere};
+ghost use Rattle.td_plan.specs.LineLaws.{SourcesAreInOrder};
 ghost use Rattle.td_plan.specs.PartLaws.{WaitsLeadDown};
 ghost use Rattle.td_plan.specs.PlayLaws.{PlansAreTakenWhole, PlansAreUndone};
 ghost use Rattle.td_plan.specs.ToldLaws.{OtherRowsAreInNoLine, RebuildsAreOfDueSources};
@@ -67,4 +70,32 @@ pub fn plans_are_taken_whole()
 /// row back.
 pub fn plans_are_undone()
     ensures { PlansAreUndone }
+{}
+
+/// A row waits for each source for which it is to wait, once, and for nothing else; its waits are
+/// in byte order of the packages.
+pub fn waits_are_all()
+    ensures { WaitsAreAll }
+{}
+
+/// The `nmu` lines stand in the order of the steps, within a step part by part, and within a part
+/// in byte order.
+pub fn lines_are_in_order()
+    ensures sources { SourcesAreInOrder }
+    ensures lines { NmuLinesAreInOrder }
+{}
+
+/// Each source with a due row has its `nmu` line in the plan, and each row that is bad or partial
+/// and isn't due has its line `# not planned`.
+pub fn lines_are_there()
+    ensures rebuilt { NmuLinesAreThere }
+    ensures left { LeftLinesAreThere }
+{}
+
+/// A row waits for the first package, in byte order, of those that the rule allows, in the version
+/// of its arrival; it has no wait for a source only if there is no such package, or if that version
+/// can't be written.
+pub fn waits_are_for_first_packages()
+    ensures told { WaitsAreForFirsts }
+    ensures untold { NoWaitsAreRight }
 {}
