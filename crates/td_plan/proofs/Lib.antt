@@ -56,6 +56,7 @@ pub mod OwnNumbers
 pub mod NewVersions
 pub mod Askings
 pub mod AskedFor
+pub mod ByNumber
 pub mod Owners
 pub mod SourceTexts
 pub mod SourcePlaces

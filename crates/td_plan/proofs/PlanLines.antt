@@ -1,12 +1,16 @@
 -- The lines of a plan, with those of one source, one part or one position more.
 use Rattle.std.proofs.Common.{◌≡◌, ℕ, ◌+◌, ◌<◌, ◌≤◌, ◌==◌, ◌++◌, ◌∷◌, [], Bool, true, false, cond}
-use Rattle.std.proofs.Common.{List, codes}
+use Rattle.std.proofs.Common.{List, Ok, Result, codes, map}
 use Rattle.std.proofs.Common.{get_or, length, take, Option, Some, None, refl, sym, ap, subst}
 use Rattle.std.proofs.Common.{◌∙◌, arith, append_assoc, append-nil}
 use Rattle.std.specs.Prelude.{option_map, slice_get, slice_index}
-use Rattle.std.specs.List.{All, cons_option, flat_map}
+use Rattle.std.specs.Global.{Global}
+use Rattle.std.specs.List.{All, AllZip, cons_option, flat_map, range_with_len}
 use Rattle.std.specs.List.Sorted.{IsPermutation, IsSorted}
 use Rattle.std.specs.Option.{option_map_or}
+use Rattle.std.specs.String.{string_bytes}
+use Rattle.std.specs.declared.alloc.AllocError.{AllocError}
+use Rattle.std.specs.declared.string.String.{String}
 use Rattle.std.proofs.lemmas.Bool.{false≢true}
 use Rattle.std.proofs.lemmas.List.Concat.{flat_map-append}
 use Rattle.std.proofs.lemmas.List.Elements.{All-get_or, Contains-get_or, filter_map-append}
@@ -26,9 +30,11 @@ use Rattle.td_plan.specs.inner.Movers.{has_due_motion, has_moving_motion, is_due
 use Rattle.td_plan.specs.inner.Movers.{is_moving_motion}
 use Rattle.td_plan.specs.inner.Ordering.{AreMembers, due_positions, members_at, position_cmp}
 use Rattle.td_plan.specs.inner.Ordering.{position_of}
-use Rattle.td_plan.specs.inner.Planned.{ArePositions, IsPlanOf, before_lines, is_part, is_step}
+use Rattle.td_plan.specs.inner.Planned.{ArePositions, AreTexts, IsPlanOf, IsTextAt, before_lines}
+use Rattle.td_plan.specs.inner.Planned.{is_part, is_step}
 use Rattle.td_plan.specs.inner.Planned.{last_at, placing_in, source_if, sources_at}
 use Rattle.td_plan.specs.inner.Waiters.{kept_of}
+use Rattle.td_plan.proofs.ByNumber.{made-for, made-len}
 use Rattle.td_plan.proofs.Chosen.{any-again, any-found}
 use Rattle.td_plan.proofs.DuePositions.{place-has, position-due}
 use Rattle.td_plan.proofs.PartSources.{before-are, part-none, part-text, sources-length}
@@ -253,3 +259,19 @@ pub line-only : (start end line : List ℕ) (lines : List (List ℕ)) → lines 
 line-only start end line lines is more =
     more ∙ ap (λ (t : List ℕ). start ++ t) (sym (append-nil (line ++ 10 ∷ [])))
     ∙ sym (ap (λ (l : List (List ℕ)). start ++ text_of l) is)
+
+-- ---- 5. the texts of the sources
+
+-- the text of each affected source
+pub texts-made : (w : Words) (plan : Plan) (P : ℕ → Result (String Global) AllocError → Type 0)
+    → ((n : ℕ) (text : String Global) → P n (Ok text) → IsTextAt w plan n (string_bytes text))
+    → (ns : List ℕ) (texts : List (String Global))
+    → ns ≡ range_with_len 0 (length plan.movers.items) → AllZip P ns (map Ok texts)
+    → AreTexts w plan texts
+texts-made w plan P so ns texts is made =
+    let count = length plan.movers.items in
+    let whole = subst (λ (l : List ℕ). AllZip P l (map Ok texts)) is made in
+    record {
+      len = made-len P 0 count texts whole;
+      at = λ k text there. so k text (made-for P count texts whole k text there);
+    }

@@ -5,14 +5,16 @@ ghost use Rattle.std.specs.List.{All, list_any};
 ghost use Rattle.td_waves.specs.Graph.{lists};
 ghost use Rattle.td_plan.specs.declared.asks.Ask.{Ask as AskOf};
 ghost use Rattle.td_plan.specs.declared.movers.Mover.{Mover as MoverOf};
-ghost use Rattle.td_plan.specs.inner.Askers.{AreAllAsks, AreAsksOf};
+ghost use Rattle.td_plan.specs.inner.Askers.{AreAllAsks, AreAsksAt, AreAsksOf};
 ghost use Rattle.td_plan.specs.inner.Asking.{AreWithin, IsByOwner, asks_at, owners_of};
 ghost use Rattle.td_plan.specs.inner.Providing.{AreProviders};
 ghost use Rattle.td_plan.specs.inner.Searching.{IsGraph};
 
-use crate::movers::Mover;
+use crate::movers::{LEAST, Mover};
 use crate::providers::{Provider, Providers};
+use rayon::prelude::*;
 use std::alloc::{AllocError, Global};
+use std::thread::Threads;
 use td_indices::{Archive, is_on};
 use td_relation::{Alternative, Relation};
 
@@ -287,8 +289,51 @@ fn asks_by<'a>(
     Ok(asks)
 }
 
-/// For each affected source what it asks for; nothing if it doesn't move.
+// What the source with a number among those that are affected asks for, if there is one.
+fn asks_numbered<'a>(
+    alloc: Global,
+    archive: &Archive<'_, 'a>,
+    providers: &Providers<'a>,
+    movers: &[Mover<'a>],
+    number: usize,
+) -> Result<Asks, AllocError>
+    ensures { IfOk result (λ asks. AreProviders archive.now movers.now providers.now
+        → AreAsksAt archive.now movers.now number asks.items) }
+{
+    let Some(mover) = movers.get(number) else {
+        return Ok(Vec::new(alloc));
+    };
+    asks_by(alloc, archive, providers, mover, number)
+}
+
+// For each affected source what it asks for; `providers` are the packages of those that move.
+fn asks_among<'a>(
+    rt: &(impl Threads + Sync),
+    alloc: Global,
+    archive: &Archive<'_, 'a>,
+    providers: &Providers<'a>,
+    movers: &[Mover<'a>],
+) -> Result<Vec<Asks>, AllocError>
+    requires { AreProviders archive.now movers.now providers.now }
+    ensures { IfOk result (λ all. AreAllAsks archive.now movers.now all.items) }
+{
+    (0..movers.len())
+        .into_par_iter()
+        .with_min_len(LEAST)
+        .map(
+            |number: usize| -> Result<Asks, AllocError>
+                ensures { IfOk result (λ asks.
+                    AreProviders archive.entry.now movers.entry.now providers.entry.now
+                    → AreAsksAt archive.entry.now movers.entry.now number asks.items) }
+            { asks_numbered(alloc, archive, providers, movers, number) },
+        )
+        .collect::<Result<Vec<Asks>, AllocError>>(rt, alloc)?
+}
+
+/// For each affected source what it asks for; nothing if it doesn't move. If the sources are many,
+/// each thread finds what some of them ask for.
 pub fn asks_of<'a>(
+    rt: &(impl Threads + Sync),
     alloc: Global,
     archive: &Archive<'_, 'a>,
     movers: &[Mover<'a>],
@@ -296,11 +341,7 @@ pub fn asks_of<'a>(
     ensures { IfOk result (λ all. AreAllAsks archive.now movers.now all.items) }
 {
     let providers = Providers::of(alloc, archive, movers)?;
-    let mut all = Vec::with_capacity(alloc, movers.len())?;
-    for number in 0..movers.len() {
-        all.push(asks_by(alloc, archive, &providers, &movers[number], number)?)?;
-    }
-    Ok(all)
+    asks_among(rt, alloc, archive, &providers, movers)
 }
 
 // Adds the owners of what is asked for.

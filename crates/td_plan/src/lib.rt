@@ -8,6 +8,8 @@
 //! are what `waves` prints by `--steps` and `--why` (`specs/Steps.antt`, `specs/Why.antt`).
 //! A source takes a look-up for each alternative of its build, and a step for each source and each
 //! package that an alternative names; no clause says that.
+//! Several threads share many sources: what each of them asks for, what is to be done with its
+//! rows, and its lines. The plan and its text are those of one thread.
 #![tactic(auto)]
 
 mod affected;

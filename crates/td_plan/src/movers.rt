@@ -1,5 +1,5 @@
 //! The affected sources, with what a plan has to do with their rows.
-ghost use Rattle.std.specs.Prelude.{◌≡◌, ◌<◌, ℕ, true, false, fold, map, IfOk, OnOk, Some, None};
+ghost use Rattle.std.specs.Prelude.{◌≡◌, ◌<◌, ℕ, true, false, fold, map, IfOk, Some, None};
 ghost use Rattle.std.specs.Prelude.{length, slice_get, slice_index_or};
 ghost use Rattle.std.specs.List.{All};
 ghost use Rattle.std.specs.Option.{option_map_or};
@@ -19,8 +19,8 @@ ghost use Rattle.td_plan.specs.inner.Inputs.{AreFor, kept_source};
 ghost use Rattle.td_plan.specs.inner.Movers.{
   AreMovers,
   AreNamed,
-  HasMore,
   IsAffectedName,
+  IsMade,
   IsMover,
   package_numbered,
   stepped,
@@ -30,9 +30,13 @@ use crate::affected::affected_names;
 use crate::due::{Motion, Motions, motions_of};
 use crate::inputs::Inputs;
 use crate::numbers::is_present;
+use rayon::prelude::*;
 use std::alloc::{AllocError, Global};
 use std::thread::Threads;
 use td_indices::{Archive, Source};
+
+/// The fewest sources that are worth a second thread.
+pub const LEAST: usize = 128;
 
 /// An affected source.
 #[derive(Drop)]
@@ -230,29 +234,24 @@ fn mover_of<'a>(
     })
 }
 
-// Adds the source with a name, if the archive has one.
-fn push_named<'a>(
+// The source with a name, if the archive has one.
+fn mover_by_name<'a>(
     alloc: Global,
     inputs: &Inputs<'_, '_, 'a>,
-    movers: &mut Vec<Mover<'a>>,
     name: &str,
-) -> Result<(), AllocError>
-    ensures { OnOk result ((p : Premises) → AreFor inputs.now p → IsAffectedName p name.now
-        → HasMore p name.now movers.old.items movers.new.items) }
+) -> Option<Result<Mover<'a>, AllocError>>
+    ensures { (p : Premises) → AreFor inputs.now p → IsAffectedName p name.now
+        → IsMade p name.now result }
 {
-    let Some(number) = inputs.archive.source_number(name) else {
-        return Ok(());
-    };
-    let Some(source) = inputs.archive.source_at(number) else {
-        return Ok(());
-    };
-    let mover = mover_of(alloc, inputs, number, source)?;
-    movers.push(mover)?;
-    Ok(())
+    let number = inputs.archive.source_number(name)?;
+    let source = inputs.archive.source_at(number)?;
+    Some(mover_of(alloc, inputs, number, source))
 }
 
-// The sources with these names, as far as the archive has them.
+// The sources with these names, as far as the archive has them. If they are many, each thread
+// finds some of them.
 fn movers_named<'a>(
+    rt: &(impl Threads + Sync),
     alloc: Global,
     inputs: &Inputs<'_, '_, 'a>,
     names: &[&'a str],
@@ -261,11 +260,16 @@ fn movers_named<'a>(
         → All (IsAffectedName p) (map (λ name. name.now) names.now)
         → AreNamed p (map (λ name. name.now) names.now) movers.items) }
 {
-    let mut movers = Vec::with_capacity(alloc, names.len())?;
-    for name in names {
-        push_named(alloc, inputs, &mut movers, *name)?;
-    }
-    Ok(movers)
+    names
+        .par_iter()
+        .with_min_len(LEAST)
+        .filter_map(
+            |name: &&str| -> Option<Result<Mover<'_>, AllocError>>
+                ensures { (p : Premises) → AreFor inputs.entry.now p
+                    → IsAffectedName p name.now.now → IsMade p name.now.now result }
+            { mover_by_name(alloc, inputs, *name) },
+        )
+        .collect::<Result<Vec<Mover<'a>>, AllocError>>(rt, alloc)?
 }
 
 /// The affected sources, in the byte order of their names.
@@ -278,5 +282,5 @@ pub fn movers_of<'a>(
         → AreMovers p movers.items) }
 {
     let names = affected_names(rt, alloc, inputs.archive, inputs.marks)?;
-    movers_named(alloc, inputs, &names)
+    movers_named(rt, alloc, inputs, &names)
 }

@@ -1,5 +1,6 @@
 //! A plan: which rows are due, in which order, and the lines that say so.
-ghost use Rattle.std.specs.Prelude.{◌≡◌, ◌++◌, ◌∷◌, [], OnOk, string_bytes, if◌then◌else◌};
+ghost use Rattle.std.specs.Prelude.{◌≡◌, ◌++◌, ◌∷◌, [], IfSome, OnOk, slice_get, string_bytes};
+ghost use Rattle.std.specs.Prelude.{if◌then◌else◌};
 ghost use Rattle.td_text.specs.Lines.{text_of};
 ghost use Rattle.td_rows.specs.Appending.{Grown};
 ghost use Rattle.td_plan.specs.Lines.{step_line};
@@ -9,12 +10,13 @@ use crate::asks::{Asks, asks_of, graph_of};
 use crate::comments::{put_left, put_step, put_title};
 use crate::due::asks_rebuild;
 use crate::inputs::Inputs;
-use crate::movers::{Mover, movers_of};
+use crate::movers::{LEAST, Mover, movers_of};
 use crate::ordering::{Position, members_of, positions_of};
 use crate::parts::{Parts, parts_of};
 use crate::reasons::reason_of;
 use crate::source_text::SourceText;
 use crate::words::Words;
+use rayon::prelude::*;
 use std::alloc::{AllocError, Global};
 use std::thread::Threads;
 use td_rows::{Key, Row};
@@ -70,6 +72,20 @@ fn put_new_step(out: &mut String, last: Option<Last>, step: usize) -> Result<(),
     put_step(out, step)
 }
 
+// Appends the text with a number, if there is one.
+#[tactic(auto, using(td_rows::proofs::Appends::growing))]
+fn put_text(out: &mut String, texts: &[String], number: usize) -> Result<(), AllocError>
+    ensures ok { OnOk result (IfSome (slice_get texts.now number)
+        (λ text. string_bytes out.new ≡ string_bytes out.old ++ string_bytes text)) }
+    ensures front { Grown (string_bytes out.old) (string_bytes out.new) }
+{
+    let Some(text) = texts.get(number) else {
+        return Ok(());
+    };
+    out.push_str(text.as_str())?;
+    Ok(())
+}
+
 impl<'x, 't, 'a> Plan<'x, 't, 'a> {
     ghost use Rattle.std.specs.Prelude.{◌≡◌, ◌++◌, ◌∷◌, ◌<◌, ℕ, [], true, IfOk, None, OnOk, Option};
     ghost use Rattle.std.specs.Prelude.{Some, length, map, option_map, slice_get, string_bytes};
@@ -80,6 +96,7 @@ impl<'x, 't, 'a> Plan<'x, 't, 'a> {
     ghost use Rattle.td_rows.specs.Table.{row_of};
     ghost use Rattle.td_waves.specs.Graph.{lists};
     ghost use Rattle.td_plan.specs.declared.movers.Mover.{Mover};
+    ghost use Rattle.td_plan.specs.Lines.{Words as SaidWords};
     ghost use Rattle.td_plan.specs.Plan.{IsPlan, due_sources, left_of, lines_before, lines_from};
     ghost use Rattle.td_plan.specs.Plan.{part_lines, source_lines};
     ghost use Rattle.td_plan.specs.Premises.{AreSound, PackagesAreApart, Premises};
@@ -88,8 +105,8 @@ impl<'x, 't, 'a> Plan<'x, 't, 'a> {
     ghost use Rattle.td_plan.specs.Premises.{row_at};
     ghost use Rattle.td_plan.specs.inner.Movers.{IsMover, has_moving_motion};
     ghost use Rattle.td_plan.specs.inner.Ordering.{AreMembers, position_of};
-    ghost use Rattle.td_plan.specs.inner.Planned.{AreNumbers, ArePositions, IsMoverNamed, IsPlanOf};
-    ghost use Rattle.td_plan.specs.inner.Planned.{before_lines};
+    ghost use Rattle.td_plan.specs.inner.Planned.{AreNumbers, ArePositions, AreTexts, IsMoverNamed};
+    ghost use Rattle.td_plan.specs.inner.Planned.{IsPlanOf, IsTextAt, before_lines};
     ghost use Rattle.td_plan.specs.inner.Planned.{is_part as is_part_of, is_step as is_step_of};
     ghost use Rattle.td_plan.specs.inner.Planned.{last_at, placing_in, source_if, sources_at};
     ghost use Rattle.td_plan.specs.inner.Waiters.{kept_of};
@@ -105,7 +122,7 @@ impl<'x, 't, 'a> Plan<'x, 't, 'a> {
             → PackagesAreApart p → IsPlanOf p plan) }
     {
         let movers = movers_of(rt, alloc, &inputs)?;
-        let asks = asks_of(alloc, inputs.archive, &movers)?;
+        let asks = asks_of(rt, alloc, inputs.archive, &movers)?;
         let graph = graph_of(alloc, &asks)?;
         let parts = parts_of(alloc, &graph)?;
         Ok(Plan {
@@ -202,19 +219,57 @@ impl<'x, 't, 'a> Plan<'x, 't, 'a> {
         text.put(alloc, out)
     }
 
-    // Appends the lines of the source at a position, and the comments before them.
+    // The lines of the affected source with a number.
+    fn source_text(
+        &self,
+        alloc: Global,
+        words: &Words<'_>,
+        number: usize,
+    ) -> Result<String, AllocError>
+        ensures { IfOk result (λ text.
+            IsTextAt (seen_words words.now) self.now number (string_bytes text)) }
+    {
+        let mut text = String::new(alloc);
+        self.put_source(alloc, &mut text, words, number)?;
+        Ok(text)
+    }
+
+    // The lines of each affected source, by its number. If the sources are many, each thread makes
+    // the texts of some.
+    fn source_texts(
+        &self,
+        rt: &(impl Threads + Sync),
+        alloc: Global,
+        words: &Words<'_>,
+    ) -> Result<Vec<String>, AllocError>
+        ensures { IfOk result
+            (λ texts. AreTexts (seen_words words.now) self.now texts.items) }
+    {
+        (0..self.movers.len())
+            .into_par_iter()
+            .with_min_len(LEAST)
+            .map(
+                |number: usize| -> Result<String, AllocError>
+                    ensures { IfOk result (λ text. IsTextAt (seen_words words.entry.now)
+                        self.entry.now number (string_bytes text)) }
+                { self.source_text(alloc, words, number) },
+            )
+            .collect::<Result<Vec<String>, AllocError>>(rt, alloc)?
+    }
+
+    // Appends the text of the source at a position, and the comments before it.
     #[tactic(auto, using(td_rows::proofs::Appends::growing))]
     fn put_position(
         &self,
-        alloc: Global,
         out: &mut String,
-        words: &Words<'_>,
+        texts: &[String],
         members: &[Vec<usize>],
         last: Option<Last>,
         position: Position,
     ) -> Result<(), AllocError>
-        ensures ok { OnOk result ((p : Premises) (m : Mover) (before : Option ℕ)
-            → IsPlanOf p self.now → AreMembers self.now.parts.firsts.items (lists members.now)
+        ensures ok { OnOk result ((w : SaidWords) (p : Premises) (m : Mover) (before : Option ℕ)
+            → AreTexts w self.now texts.now → IsPlanOf p self.now
+            → AreMembers self.now.parts.firsts.items (lists members.now)
             → slice_get self.now.movers.items position.2 ≡ Some m → has_moving_motion m ≡ true
             → ((n : ℕ) → before ≡ Some n → n < length self.now.movers.items)
             → position ≡ position_of self.now.parts position.2
@@ -222,7 +277,7 @@ impl<'x, 't, 'a> Plan<'x, 't, 'a> {
             → string_bytes out.new ≡ string_bytes out.old ++ text_of (
             lines_before (placing_in self.now) p (source_if self.now.movers.items before)
             (kept_of m)
-            ++ source_lines (seen_words words.now) (placing_in self.now) p (kept_of m))) }
+            ++ source_lines w (placing_in self.now) p (kept_of m))) }
         ensures front { Grown (string_bytes out.old) (string_bytes out.new) }
     {
         let (step, first, number) = position;
@@ -230,30 +285,30 @@ impl<'x, 't, 'a> Plan<'x, 't, 'a> {
             return Ok(());
         };
         self.put_before(out, last, step, first, members)?;
-        self.put_source(alloc, out, words, number)
+        put_text(out, texts, number)
     }
 
-    // Appends the lines of the sources at some positions, one after the other.
+    // Appends the texts of the sources at some positions, one after the other.
     #[tactic(auto, using(td_rows::proofs::Appends::growing))]
     fn put_positions(
         &self,
-        alloc: Global,
         out: &mut String,
-        words: &Words<'_>,
+        texts: &[String],
         members: &[Vec<usize>],
         positions: &[Position],
     ) -> Result<(), AllocError>
-        ensures ok { OnOk result ((p : Premises) → IsPlanOf p self.now
+        ensures ok { OnOk result ((w : SaidWords) (p : Premises) → AreTexts w self.now texts.now
+            → IsPlanOf p self.now
             → AreMembers self.now.parts.firsts.items (lists members.now)
             → ArePositions self.now.movers.items self.now.parts positions.now
             → string_bytes out.new ≡ string_bytes out.old ++ text_of (
-            lines_from (seen_words words.now) (placing_in self.now) p None
+            lines_from w (placing_in self.now) p None
             (sources_at self.now.movers.items (map (λ q. q.2) positions.now)))) }
         ensures front { Grown (string_bytes out.old) (string_bytes out.new) }
     {
         let mut last = None;
         for position in positions {
-            self.put_position(alloc, out, words, members, last, *position)?;
+            self.put_position(out, texts, members, last, *position)?;
             let (step, first, _) = *position;
             last = Some(Last { step, first });
         }
@@ -264,6 +319,7 @@ impl<'x, 't, 'a> Plan<'x, 't, 'a> {
     #[tactic(auto, using(td_rows::proofs::Appends::growing))]
     fn put_sources(
         &self,
+        rt: &(impl Threads + Sync),
         alloc: Global,
         out: &mut String,
         words: &Words<'_>,
@@ -276,7 +332,8 @@ impl<'x, 't, 'a> Plan<'x, 't, 'a> {
     {
         let members = members_of(alloc, &self.parts)?;
         let positions = positions_of(alloc, &self.movers, &self.parts)?;
-        self.put_positions(alloc, out, words, &members, &positions)
+        let texts = self.source_texts(rt, alloc, words)?;
+        self.put_positions(out, &texts, &members, &positions)
     }
 
     // For each source of the archive its number among the affected ones, if it is affected.
@@ -392,13 +449,19 @@ impl<'x, 't, 'a> Plan<'x, 't, 'a> {
     }
 
     /// The plan's lines, under the title of its tracker.
-    pub fn text(&self, alloc: Global, title: &str, words: &Words<'_>) -> Result<String, AllocError>
+    pub fn text(
+        &self,
+        rt: &(impl Threads + Sync),
+        alloc: Global,
+        title: &str,
+        words: &Words<'_>,
+    ) -> Result<String, AllocError>
         ensures { IfOk result (λ text. (p : Premises) → IsPlanOf p self.now
             → p.tracker.title ≡ title.now → IsPlan (seen_words words.now) p (string_bytes text)) }
     {
         let mut out = String::new(alloc);
         put_title(&mut out, title)?;
-        self.put_sources(alloc, &mut out, words)?;
+        self.put_sources(rt, alloc, &mut out, words)?;
         self.put_left_rows(alloc, &mut out)?;
         Ok(out)
     }

@@ -150,7 +150,7 @@ impl<'x, 't, 'a> Steps<'x, 't, 'a> {
         ensures archive { IfOk result (λ steps. steps.archive.now ≡ archive.now) }
     {
         let movers = affected_of(rt, alloc, archive, marks)?;
-        let asks = asks_of(alloc, archive, &movers)?;
+        let asks = asks_of(rt, alloc, archive, &movers)?;
         let graph = graph_of(alloc, &asks)?;
         let parts = parts_of(alloc, &graph)?;
         Ok(Steps {

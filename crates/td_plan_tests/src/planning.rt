@@ -65,7 +65,7 @@ fn planned(
     words: &Words<'_>,
 ) -> Result<String, AllocError> {
     let plan = Plan::of(rt, alloc, inputs)?;
-    plan.text(alloc, title, words)
+    plan.text(rt, alloc, title, words)
 }
 
 fn is_planned(rt: &(impl Abort + Threads + Sync), alloc: Global, case: &Case) {

@@ -45,7 +45,7 @@ fn lines_of(
         → p.tracker.title ≡ title.now → IsPlan (seen_words words.now) p (string_bytes said)) }
 {
     let plan = Plan::of(rt, alloc, inputs)?;
-    plan.text(alloc, title, words)
+    plan.text(rt, alloc, title, words)
 }
 
 // The plan of a text's tracker over an archive and these rows.

@@ -20,6 +20,10 @@ pub record AreAsksOf (a : Contents) (ms : List Mover) (own : ℕ) (m : Mover)
       → has_moving_motion m ≡ true → place < length a.table
       → AreAsks a ms own s place (asks_at asks place)
 
+-- these are the asks of the affected source with a number, if there is one
+abbrev pub AreAsksAt : Contents → List Mover → ℕ → List (Vec Ask) → Type 0
+AreAsksAt a ms own asks = (m : Mover) → slice_get ms own ≡ Some m → AreAsksOf a ms own m asks
+
 -- these are the asks of each affected source
 pub record AreAllAsks (a : Contents) (ms : List Mover) (all : List (Vec (Vec Ask))) : Type 0 where
   pub len : length all ≡ length ms

@@ -4,6 +4,8 @@ use Rattle.std.specs.Prelude.{◌≡◌, ℕ, ◌<◌, Bool, true, false, List, 
 use Rattle.std.specs.Prelude.{◌++◌, ◌∷◌, [], map, slice_get, slice_index_or, if◌then◌else◌}
 use Rattle.std.specs.List.{All, Contains, list_any}
 use Rattle.std.specs.Option.{option_and_then}
+use Rattle.std.specs.Prelude.{Result, Ok, Err}
+use Rattle.std.specs.declared.alloc.AllocError.{AllocError}
 use Rattle.td_indices.specs.Archive.{Contents, number_named}
 use Rattle.td_indices.specs.Kept.{KeptBinary}
 use Rattle.td_indices.specs.Sources.{KeptSource}
@@ -98,6 +100,12 @@ pub record HasMoreOf (Is : Mover → Type 0) (name : List ℕ) (old new : List M
   pub named : mover_name mover ≡ name
   pub is : Is mover
 
+-- what was made for a name is the source with this name, of some kind, unless memory ran out
+abbrev pub IsMadeOf : (Mover → Type 0) → List ℕ → Option (Result Mover AllocError) → Type 0
+IsMadeOf Is name None = ⊥
+IsMadeOf Is name (Some (Ok m)) = (mover_name m ≡ name) × Is m
+IsMadeOf Is name (Some (Err e)) = Unit {0}
+
 -- the sources with these names, in their order, all of some kind
 pub record AreNamedOf (Is : Mover → Type 0) (names : List (List ℕ)) (ms : List Mover)
     : Type 0 where
@@ -115,9 +123,10 @@ pub record AreAllOf (Is : Mover → Type 0) (a : Contents) (t : Tracking) (ms : 
 
 -- ---- 4. what a plan has to do with their rows
 
--- the source with this name comes after the others, with what a plan has to do with its rows
-abbrev pub HasMore : Premises → List ℕ → List Mover → List Mover → Type 0
-HasMore p name old new = HasMoreOf (λ m. IsMover p m (kept_source m.source)) name old new
+-- what was made for a name is the source with this name, with what a plan has to do with its rows,
+-- unless memory ran out
+abbrev pub IsMade : Premises → List ℕ → Option (Result Mover AllocError) → Type 0
+IsMade p name made = IsMadeOf (λ m. IsMover p m (kept_source m.source)) name made
 
 -- the sources with these names, in their order, with what a plan has to do with their rows
 abbrev pub AreNamed : Premises → List (List ℕ) → List Mover → Type 0

@@ -5,7 +5,11 @@ use Rattle.std.specs.Prelude.{fold, length, option_map, slice_get, slice_index}
 use Rattle.std.specs.Prelude.{if◌then◌else◌}
 use Rattle.std.specs.List.{All, filter_map, position_or_len}
 use Rattle.std.specs.Option.{option_and_then, option_map_or}
+use Rattle.std.specs.Global.{Global}
 use Rattle.std.specs.Str.{bytes_eq}
+use Rattle.std.specs.String.{string_bytes}
+use Rattle.std.specs.declared.string.String.{String}
+use Rattle.td_text.specs.Lines.{text_of}
 use Rattle.td_indices.specs.Archive.{source_named}
 use Rattle.td_indices.specs.Sources.{KeptSource}
 use Rattle.td_query.specs.Statuses.{is_affected}
@@ -13,9 +17,9 @@ use Rattle.td_plan.specs.declared.movers.Mover.{Mover}
 use Rattle.td_plan.specs.declared.parts.Parts.{Parts}
 use Rattle.td_plan.specs.declared.plan.Last.{Last}
 use Rattle.td_plan.specs.declared.plan.Plan.{Plan}
-use Rattle.td_plan.specs.Lines.{step_line}
+use Rattle.td_plan.specs.Lines.{Words, step_line}
 use Rattle.td_plan.specs.Placing.{IsPlacing, Placing}
-use Rattle.td_plan.specs.Plan.{part_lines}
+use Rattle.td_plan.specs.Plan.{part_lines, source_lines}
 use Rattle.td_plan.specs.Premises.{AreSound, PackagesAreApart, Premises}
 use Rattle.td_plan.specs.inner.Askers.{AreAllAsks}
 use Rattle.td_plan.specs.inner.Inputs.{AreFor}
@@ -96,6 +100,18 @@ pub record ArePositions (ms : List Mover) (parts : Parts)
 -- the source with a number, if there is one
 abbrev pub source_if : List Mover → Option ℕ → Option KeptSource
 source_if ms number = option_and_then (λ n. option_map kept_of (slice_get ms n)) number
+
+-- the text is the lines of the affected source with a number, if there is one that moves
+abbrev pub IsTextAt : Words → Plan → ℕ → List ℕ → Type 0
+IsTextAt w plan k text = (p : Premises) (m : Mover) → IsPlanOf p plan
+    → slice_get plan.movers.items k ≡ Some m → has_moving_motion m ≡ true
+    → text ≡ text_of (source_lines w (placing_in plan) p (kept_of m))
+
+-- the texts are the lines of each affected source that moves, by its number
+pub record AreTexts (w : Words) (plan : Plan) (texts : List (String Global)) : Type 0 where
+  pub len : length texts ≡ length plan.movers.items
+  pub at : (k : ℕ) (text : String Global) → slice_get texts k ≡ Some text
+      → IsTextAt w plan k (string_bytes text)
 
 -- ---- 3. the rows that aren't planned
 

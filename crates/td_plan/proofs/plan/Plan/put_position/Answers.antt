@@ -1,13 +1,13 @@
 -- `Plan::put_position`: the lines of the source there, and the comments before them.
-use Rattle.std.proofs.Common.{◌≡◌, ◌<◌, ◌∙◌, None, Some, ap, arith, length}
-use Rattle.std.proofs.Common.{string_bytes, slice_get, sym, ℕ}
-use Rattle.std.specs.Prelude.{slice_index}
-use Rattle.std.specs.Global.{Vec}
+use Rattle.std.proofs.Common.{◌≡◌, ◌<◌, ◌++◌, ◌∙◌, List, None, Option, Some, ap, arith, length}
+use Rattle.std.proofs.Common.{string_bytes, slice_get, subst, sym, ℕ}
+use Rattle.std.specs.Prelude.{IfSome, slice_index}
+use Rattle.std.specs.Global.{Global, Vec}
+use Rattle.std.specs.declared.string.String.{String}
 use Rattle.std.proofs.lemmas.List.{get_or-map}
 use Rattle.std.proofs.lemmas.Option.{get_or_from_slice_get, slice_get_within}
 use Rattle.std.proofs.lemmas.Result.{on_ok_weaker}
 use Rattle.td_waves.specs.Graph.{bases_of, lists}
-use Rattle.td_plan.specs.inner.Writing.{seen_words}
 use Rattle.td_plan.proofs.PlanLines.{first-low, position-lines}
 use Rattle.td_plan.proofs.SourcePlaces.{item-at}
 use Rattle.td_plan.proofs.Turned.{lists-len}
@@ -15,7 +15,7 @@ use Rattle.td_plan.proofs.Waiters.{at-below}
 use Rattle.td_plan.proofs.plan.Plan.put_position.Goals as goal
 
 pub returns-in_default-clause-ok : goal.returns-in_default-clause-ok
-returns-in_default-clause-ok c = λ p m before is are at moving low placed last.
+returns-in_default-clause-ok c = λ w p m before told is are at moving low placed last.
     let plan = c.args.self.now in
     let members = c.args.members.now in
     let position = c.args.position in
@@ -44,9 +44,16 @@ returns-clause-ok c =
     get_or-map (λ (v : Vec ℕ). v.items) members position.1 list _
     (slice_get_within members position.1 list there)
     ∙ ap (λ (v : Vec ℕ). v.items) (get_or_from_slice_get members position.1 list list there) in
-    on_ok_weaker c.put_source.result (λ lines p m before is are at moving low placed last.
-    position-lines p plan is (seen_words c.args.words.now) position.2 m before (lists members)
-    c.deref.result.now position c.args.last (string_bytes c.args.out.now)
-    (string_bytes c.put_before.new.out) (string_bytes c.put_source.new.out) are at moving low placed
-    last (c.deref.ensures.value ∙ sym its) c.in_ok-put_before.ensures.ok
-    (lines p m is at moving)) c.put_source.ensures.ok
+    let mid = string_bytes c.put_before.new.out in
+    let end = string_bytes c.put_text.new.out in
+    on_ok_weaker c.put_text.result (λ text w p m before told is are at moving low placed last.
+    let own = at-below c.args.texts.now position.2
+    (omega (arith, told.len, slice_get_within plan.movers.items position.2 m at)) in
+    let mine : end ≡ mid ++ string_bytes own.0 =
+    subst (λ (o : Option (String Global)). IfSome o (λ t. end ≡ mid ++ string_bytes t)) own.1
+    text in
+    position-lines p plan is w position.2 m before (lists members) c.deref.result.now position
+    c.args.last (string_bytes c.args.out.now) mid end are at moving low placed last
+    (c.deref.ensures.value ∙ sym its) c.in_ok-put_before.ensures.ok
+    (mine ∙ ap (λ (t : List ℕ). mid ++ t) (told.at position.2 own.0 own.1 p m is at moving)))
+    c.put_text.ensures.ok

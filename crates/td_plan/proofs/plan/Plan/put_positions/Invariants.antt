@@ -4,12 +4,12 @@ use Rattle.std.proofs.Common.{string_bytes}
 use Rattle.td_text.specs.Lines.{text_of}
 use Rattle.td_rows.specs.Appending.{Grown}
 use Rattle.td_waves.specs.Graph.{lists}
+use Rattle.td_plan.specs.Lines.{Words}
 use Rattle.td_plan.specs.Plan.{lines_from}
 use Rattle.td_plan.specs.Premises.{Premises}
 use Rattle.td_plan.specs.inner.Ordering.{AreMembers}
-use Rattle.td_plan.specs.inner.Planned.{ArePositions, IsPlanOf, last_at, last_number, placing_in}
-use Rattle.td_plan.specs.inner.Planned.{source_if, sources_at}
-use Rattle.td_plan.specs.inner.Writing.{seen_words}
+use Rattle.td_plan.specs.inner.Planned.{ArePositions, AreTexts, IsPlanOf, last_at, last_number}
+use Rattle.td_plan.specs.inner.Planned.{placing_in, source_if, sources_at}
 use Rattle.td_plan.proofs.plan.Plan.put_positions.Given as goal
 
 -- the lines so far, and those to come
@@ -21,12 +21,12 @@ invariant-loop-position l = record {
   low : ArePositions l.self.movers.items l.self.parts l.positions → (n : ℕ)
       → last_number (take l.position-index l.positions) ≡ Some n
       → n < length l.self.movers.items;
-  text : (p : Premises) → IsPlanOf p l.self
+  text : (w : Words) (p : Premises) → AreTexts w l.self l.texts → IsPlanOf p l.self
       → AreMembers l.self.parts.firsts.items (lists l.members)
       → ArePositions l.self.movers.items l.self.parts l.positions
-      → string_bytes l.out ++ text_of (lines_from (seen_words l.words) (placing_in l.self) p
+      → string_bytes l.out ++ text_of (lines_from w (placing_in l.self) p
       (source_if l.self.movers.items (last_number (take l.position-index l.positions)))
       (sources_at l.self.movers.items (map (λ q. q.2) (drop l.position-index l.positions))))
-      ≡ string_bytes l.fn.out ++ text_of (lines_from (seen_words l.words) (placing_in l.self) p
+      ≡ string_bytes l.fn.out ++ text_of (lines_from w (placing_in l.self) p
       None (sources_at l.self.movers.items (map (λ q. q.2) l.positions)));
 }

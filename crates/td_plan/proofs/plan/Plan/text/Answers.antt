@@ -10,7 +10,7 @@ use Rattle.td_plan.proofs.SourceTexts.{lines-then, text_of-append}
 use Rattle.td_plan.proofs.plan.Plan.text.Goals as goal
 
 pub returns : goal.returns
-returns c = λ p is title.
+returns g c = λ p is title.
     let plan = c.args.self.now in
     let x = placing_in plan in
     let lines : List (List ℕ) =
