@@ -2,7 +2,7 @@
 use Rattle.td_words.specs.declared.request.WordsFault.TheVariants.{NoMemory}
 use Rattle.td_words.specs.Asked.{IsUsage}
 use Rattle.std.proofs.Common.{◌≡◌, ℕ, Bool, true, false, List, [], ◌++◌, Option, Some, None, Result}
-use Rattle.std.proofs.Common.{◌∷◌, Ok, Err, IfOk, MatchResult, codes, option_map, unwrap_or}
+use Rattle.std.proofs.Common.{Ok, Err, IfOk, MatchResult, codes, option_map, unwrap_or}
 use Rattle.std.proofs.Common.{refl, sym, ap, subst, inl, inr, ◌∙◌, append-nil}
 use Rattle.std.specs.Borrow.{Bor}
 use Rattle.clap.specs.Faults.{fault_of, is_simple_and_free}
