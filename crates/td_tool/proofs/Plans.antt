@@ -1,23 +1,27 @@
 -- A plan can be made of what was opened, and its lines can have the words that were asked for.
 use Rattle.std.proofs.Common.{◌≡◌, ℕ, true, false, List, Option, Some, None, Result, Err}
-use Rattle.std.proofs.Common.{string_bytes, ap, subst, sym, ◌∙◌}
+use Rattle.std.proofs.Common.{Bool, map, string_bytes, ap, subst, sym, ◌∙◌}
 use Rattle.std.specs.Prelude.{◌↔◌, IsErrOf}
 use Rattle.td_text.specs.Lines.{lines_of}
 use Rattle.td_rows.specs.Table.{Table}
 use Rattle.td_indices.specs.Archive.{Contents}
+use Rattle.td_indices.specs.Choosing.{AreOpenedOf, flagged}
+use Rattle.td_query.specs.Statuses.{is_affected}
 use Rattle.td_query.specs.Tracking.{Tracking}
 use Rattle.td_inputs.specs.Inputs.{AreOpened, IsArchiveOf, Texts}
 use Rattle.td_inputs.specs.Opened.{AreGivenRows}
 use Rattle.td_inputs.specs.declared.opened.Opened.{Opened}
+use Rattle.td_plan.specs.Lines.{Words as PlanWords}
 use Rattle.td_plan.specs.Message.{can_be_quoted, is_suite}
 use Rattle.td_plan.specs.SoundLaws.{AreOpening, CanBePlanned, WasRead}
 use Rattle.td_plan.specs.declared.words.WordFault.{WordFault}
 use Rattle.td_plan.specs.declared.words.WordFault.TheVariants.{BadMessage, BadSuite}
 use Rattle.td_plan.specs.declared.words.Words.{Words}
+use Rattle.td_plan.proofs.AffectedRows.{affected-opening-rows-are-enough}
 use Rattle.td_plan.proofs.SoundArchives.{opening-rows, replaced-rows}
 use Rattle.td_words.specs.declared.line_words.LineWords.{LineWords}
-use Rattle.td_tool.specs.TrackInside.{AreLookedAt, WasOpened}
-use Rattle.td_tool.specs.Tracks.{premises_of}
+use Rattle.td_tool.specs.TrackInside.{AreLookedAt, GivenSays, WasOpened}
+use Rattle.td_tool.specs.Tracks.{IsPlanWith, premises_of}
 
 -- an archive was read of the texts that it is of
 was_read : (x : Texts) (c : Contents) → IsArchiveOf x c → WasRead c
@@ -55,6 +59,19 @@ pub opened_planned : (o : Opened) (t : Tracking) (rows : Table) → WasOpened o
 opened_planned o t rows (x, is) looked =
     looked_at_planned o.archive.now t x.state o.rows rows (was_read x o.archive.now is.archive)
     is.rows looked
+
+-- what was opened is of an archive that was read
+pub opened_read : (o : Opened) → WasOpened o → WasRead o.archive.now
+opened_read o (x, is) = was_read x o.archive.now is.archive
+
+-- a plan of the rows with which the affected sources open is one of all with which a desk opens
+pub opening_says : (w : PlanWords) (c : Contents) (t : Tracking) (flags : List Bool) (rows : Table)
+    (text : List ℕ) → flags ≡ map (is_affected c t) c.sources
+    → AreOpenedOf c (flagged flags c.sources) rows → IsPlanWith w c t rows text
+    → GivenSays (IsPlanWith w) c None t text
+opening_says w c t flags rows text are opened is =
+    let all = affected-opening-rows-are-enough w (premises_of c t rows) flags text are opened is in
+    (all.0, record { same = all.1.same; rising = all.1.rising }, all.2)
 
 -- ---- the words
 

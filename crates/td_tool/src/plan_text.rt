@@ -1,12 +1,12 @@
 //! The plan of a tracker over what was opened, as a text.
-ghost use Rattle.std.specs.Prelude.{◌≡◌, IfOk, IfSome, string_bytes};
+ghost use Rattle.std.specs.Prelude.{◌≡◌, IfOk, IfSome, None, string_bytes};
 ghost use Rattle.td_plan.specs.Plan.{IsPlan};
 ghost use Rattle.td_plan.specs.Premises.{Premises};
-ghost use Rattle.td_plan.specs.SoundLaws.{CanBePlanned};
+ghost use Rattle.td_plan.specs.SoundLaws.{CanBePlanned, WasRead};
 ghost use Rattle.td_plan.specs.inner.Inputs.{AreFor};
 ghost use Rattle.td_plan.specs.inner.Writing.{seen_words};
 ghost use Rattle.td_query.specs.Tracking.{IsTracker, tracking};
-ghost use Rattle.td_tool.specs.TrackInside.{AreLookedAt, GivenSays, WasOpened};
+ghost use Rattle.td_tool.specs.TrackInside.{GivenSays, WasOpened};
 ghost use Rattle.td_tool.specs.Tracks.{IsPlanWith, premises_of};
 
 use std::alloc::{AllocError, Global};
@@ -17,21 +17,6 @@ use td_inputs::Opened;
 use td_plan::{Inputs, Plan, Words};
 use td_query::{Marks, Tracker};
 use td_rows::Rows;
-
-// The rows of which a plan is made: those that are given, or all with which the archive opens.
-fn rows_of(archive: &Archive<'_, '_>, given: Option<Rows>) -> Result<Rows, AllocError>
-    ensures { IfOk result (AreLookedAt archive.now given) }
-{
-    match given {
-        Some(rows) => Ok(rows),
-        None => {
-            let rows = archive.opening_rows()?;
-            // (`len` says that the keys of the rows rise)
-            let _rising = rows.len();
-            Ok(rows)
-        }
-    }
-}
 
 // The lines of the plan of these inputs.
 fn lines_of(
@@ -73,6 +58,34 @@ fn planned<R: Threads + Sync>(
     lines_of(rt, alloc, inputs, tracker.title(), words)
 }
 
+// The plan of a text's tracker over all rows with which the archive opens. Those of the affected
+// sources are enough.
+fn opening_planned<R: Threads + Sync>(
+    rt: &R,
+    alloc: Global,
+    archive: &Archive<'_, '_>,
+    tracker: &Tracker<'_>,
+    text: &str,
+    words: &Words<'_>,
+) -> Result<String, AllocError>
+    requires tracker { IsTracker text.now (tracking tracker.now) }
+    requires read { WasRead archive.now }
+    ensures { IfOk result (λ said. GivenSays (IsPlanWith (seen_words words.now)) archive.now None
+        (tracking tracker.now) (string_bytes said)) }
+{
+    let marks = Marks::make(rt, alloc, archive, tracker, text)?;
+    let flags = marks.affected_flags(rt, alloc, archive)?;
+    let rows = archive.opening_rows_of(&flags)?;
+    let inputs = Inputs {
+        archive,
+        marks: &marks,
+        rows: &rows,
+    };
+    let said = lines_of(rt, alloc, inputs, tracker.title(), words);
+    mem::forget(rows);
+    said
+}
+
 /// The plan of what was opened. (A tracker is always among it.)
 pub fn opened_plan<R: Threads + Sync>(
     rt: &R,
@@ -95,8 +108,12 @@ pub fn opened_plan<R: Threads + Sync>(
     let Some(given) = tracker else {
         return Ok(String::new(alloc));
     };
-    let rows = rows_of(archive, rows)?;
-    let said = planned(rt, alloc, archive, &rows, &given.tracker, given.text, words);
-    mem::forget(rows);
-    said
+    match rows {
+        None => opening_planned(rt, alloc, archive, &given.tracker, given.text, words),
+        Some(rows) => {
+            let said = planned(rt, alloc, archive, &rows, &given.tracker, given.text, words);
+            mem::forget(rows);
+            said
+        }
+    }
 }
