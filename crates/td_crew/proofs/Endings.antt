@@ -1,7 +1,7 @@
 -- A crew's answers end with the rows of the book with which its desk is closed.
 use Rattle.std.proofs.Common.{◌≡◌, ℕ, ◌+◌, true, List, ◌++◌, length, map, Option, Some, None}
 use Rattle.std.proofs.Common.{Result, Ok, Err, refl, sym, ap, ap₂, append_assoc, subst, ◌∙◌}
-use Rattle.std.specs.Prelude.{IfErr, IfOk, OnOk, codes, string_bytes}
+use Rattle.std.specs.Prelude.{IfErr, IfOk, MatchResult, OnOk, codes, string_bytes}
 use Rattle.std.proofs.Math.Logic.{∥∥₁_map}
 use Rattle.atomic_table.specs.Seated.{TableId}
 use Rattle.td_text.specs.Lines.{lines_of}
@@ -189,18 +189,41 @@ told_ok builders s given rows lines (Err e) begun ends = tt
 -- ---- 3. no desk is begun
 
 -- what holds of what was begun holds if there are answers
-pub told_begun : {A : Type 0} (P : Type 0) (begun : Result A ReadError)
-    (r : Result ToldText ReadError) → OnOk begun P → IfErr begun (λ e. r ≡ Err e) → OnOk r P
+pub told_begun : {A B : Type 0} (P : Type 0) (begun : Result A ReadError)
+    (r : Result B ReadError) → OnOk begun P → IfErr begun (λ e. r ≡ Err e) → OnOk r P
 told_begun P (Ok a) (Ok told) is same = is
 told_begun P (Ok a) (Err e) is same = tt
 told_begun P (Err e) (Ok told) is same = absurd (let h = same in cc)
 told_begun P (Err e) (Err f) is same = tt
 
 -- if there are no answers, no desk was begun, or memory ran out
-pub untold_begun : {A : Type 0} (P : ReadError → Type 0) (begun : Result A ReadError)
-    (r : Result ToldText ReadError) → P NoMemory → IfErr begun P
+pub untold_begun : {A B : Type 0} (P : ReadError → Type 0) (begun : Result A ReadError)
+    (r : Result B ReadError) → P NoMemory → IfErr begun P
     → IfErr begun (λ e. r ≡ Err e) → OnOk begun (IfErr r (λ e. e ≡ NoMemory)) → IfErr r P
 untold_begun P begun (Ok told) none is same memory = tt
 untold_begun P (Ok a) (Err e) none is same memory = subst P (sym memory) none
 untold_begun P (Err f) (Err e) none is same memory =
     let h : f ≡ e = (let k = same in cc) in subst P h is
+
+-- ---- 4. what is taken out of a telling
+
+-- what holds of what is told in a telling holds once it is taken out
+pub taken_ok : {A B : Type 0} (t : Result A ReadError) (r : Result B ReadError) (told : A → B)
+    (P : B → Type 0) → MatchResult t (λ a. r ≡ Ok (told a)) (λ e. r ≡ Err e)
+    → IfOk t (λ a. P (told a)) → IfOk r P
+taken_ok (Ok a) r told P is h = subst (λ x. IfOk x P) (sym is) h
+taken_ok (Err e) r told P is h = subst (λ x. IfOk x P) (sym is) tt
+
+-- what holds if there is a telling holds if there is what is told
+pub taken_on : {A B : Type 0} (t : Result A ReadError) (r : Result B ReadError) (told : A → B)
+    (P : Type 0) → MatchResult t (λ a. r ≡ Ok (told a)) (λ e. r ≡ Err e)
+    → OnOk t P → OnOk r P
+taken_on (Ok a) r told P is h = subst (λ x. OnOk x P) (sym is) h
+taken_on (Err e) r told P is h = subst (λ x. OnOk x P) (sym is) tt
+
+-- a fault stays what it is
+pub taken_err : {A B : Type 0} (t : Result A ReadError) (r : Result B ReadError) (told : A → B)
+    (P : ReadError → Type 0) → MatchResult t (λ a. r ≡ Ok (told a)) (λ e. r ≡ Err e)
+    → IfErr t P → IfErr r P
+taken_err (Ok a) r told P is h = subst (λ x. IfErr x P) (sym is) tt
+taken_err (Err e) r told P is h = subst (λ x. IfErr x P) (sym is) h

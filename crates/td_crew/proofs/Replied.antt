@@ -1,14 +1,16 @@
 -- What a clerk with builders says is what a book of the desk answers, in the words of scripts.
 use Rattle.std.proofs.Common.{◌≡◌, ℕ, Bool, true, false, List, [], ◌∷◌, ◌++◌, Option, Some}
 use Rattle.std.proofs.Common.{None, Result, Ok, Err, refl, sym, ap, ◌∙◌, append-nil}
-use Rattle.std.proofs.Common.{append_assoc, subst}
+use Rattle.std.proofs.Common.{subst}
 use Rattle.std.specs.declared.alloc.AllocError.{AllocError}
-use Rattle.std.specs.Prelude.{IfOk, MatchOption, OnErr, OnOk, codes, decimal, string_bytes}
+use Rattle.std.specs.Prelude.{IfOk, IsOkAnd, MatchOption, OnErr, OnOk, codes, decimal, string_bytes}
 use Rattle.std.specs.List.{flat_map}
 use Rattle.atomic_table.specs.Seated.{TableId}
 use Rattle.td_rows.specs.declared.key.Key.{Key}
 use Rattle.td_rows.specs.declared.kind.Kind.{Kind}
+use Rattle.td_rows.specs.declared.kind.Kind.TheVariants as kinds
 use Rattle.td_rows.specs.StateWord.{state_word}
+use Rattle.td_rows.specs.Table.{Table}
 use Rattle.td_journal.specs.declared.entry.Mark.{Mark}
 use Rattle.td_core.specs.History.{History}
 use Rattle.td_wbread.specs.declared.fault.CommandFault.{CommandFault}
@@ -40,13 +42,15 @@ use Rattle.td_script.specs.declared.line.Said.TheVariants.{Skipped, Asked, Bad, 
 use Rattle.td_script.specs.Reading.{said_at}
 use Rattle.td_script.specs.Replies.{Reply, Setting, ended, entry_made, refusal_line, skip_line}
 use Rattle.td_script.specs.Replies.{undo_name}
+use Rattle.td_script.specs.Answering.{Answers}
 use Rattle.td_script.specs.Replying.{IsArrivalRefused, IsCommandRefused, IsPut, IsUndoPut}
 use Rattle.td_crew.specs.declared.shown.Shown.{Shown}
-use Rattle.td_crew.specs.Replies.{DeskReply, IsOfSweep, IsOfUndo, IsSaid, IsShown, MayAnswer}
-use Rattle.td_crew.specs.Replies.{MayArrive}
+use Rattle.td_crew.specs.declared.shown.View.{View}
+use Rattle.td_crew.specs.Replies.{DeskReply, IsArrivalTold, IsCommandTold, IsOfSweep, IsOfUndo}
+use Rattle.td_crew.specs.Replies.{IsSaid, IsShown, MayAnswer, MayArrive}
 use Rattle.td_crew.specs.Replies.{MayCommand, MayReply, MaySay, MayShow, MaySweep}
 use Rattle.td_crew.specs.Replies.{MayType, MayUndo, Says}
-use Rattle.td_crew.specs.Replies.{declines, keys_at, makes, tells}
+use Rattle.td_crew.specs.Replies.{declines, keys_at, makes, shown_by, tells}
 use Rattle.td_crew.specs.CrewText.{AreTold, Told, with_reply}
 
 -- ---- 1. what is put
@@ -62,25 +66,21 @@ said_refused name before now old new refused put same = record {
 }
 
 -- the clerk says the line of an entry, and gets its receipt
-made_said : (n : ℕ) (keys : List Key) (behind before mid now : List ℕ) (receipt : Receipt)
-    (old new : ClerkModel) → mid ≡ before ++ entry_made n keys → now ≡ mid ++ behind
+made_said : (n : ℕ) (keys : List Key) (behind before now : List ℕ) (receipt : Receipt)
+    (old new : ClerkModel) (refused : Bool)
+    → IsPut (entry_made n keys ++ behind) false before now refused
     → new ≡ with_receipt receipt old
-    → IsSaid (record {
-      text = entry_made n keys ++ behind;
-      refused = false;
-      receipts = receipt ∷ [];
-    }) before now old.receipts new.receipts false
-made_said n keys behind before mid now receipt old new one two got = record {
-  text_is = two ∙ ap (λ (l : List ℕ). l ++ behind) one
-      ∙ append_assoc before (entry_made n keys) behind;
+    → IsSaid (makes n keys behind receipt) before now old.receipts new.receipts refused
+made_said n keys behind before now receipt old new refused put got = record {
+  text_is = put.text_is;
   receipts_are = ap (λ (c : ClerkModel). c.receipts) got;
-  refusal = refl;
+  refusal = put.refusal;
 }
 
--- what holds of what a value tells holds of the answer that was taken out of it
-pub by_answer : {A : Type 0} (P : A → Type 0) (told answer is : A) → answer ≡ told → answer ≡ is
-    → P told → P is
-by_answer P told answer is taken at h = subst P (sym taken ∙ at) h
+-- what holds of a value that was taken out of an answer holds of the answer
+pub taken_out : {A : Type 0} (P : A → Type 0) (told answer : Result A AllocError) (a : A)
+    → answer ≡ told → answer ≡ Ok a → P a → IsOkAnd told P
+taken_out P told answer a taken is holds = subst (λ r. IsOkAnd r P) (sym is ∙ taken) holds
 
 -- ---- 2. calls
 
@@ -98,7 +98,7 @@ undo_refused Of n e before now old new refused a of same put = (
 )
 
 -- what a clerk says to an undo
-undo_said : (Of : BookModel → Type 0) (n : ℕ)
+pub undo_said : (Of : BookModel → Type 0) (n : ℕ)
     (answer : Result (Unit {0}) UndoRefusal) (before now : List ℕ) (old new : ClerkModel)
     (refused : Bool) → Undoing n Of answer
     → OnOk answer (new ≡ with_receipt (Undid n) old) → OnErr answer (new ≡ old)
@@ -131,21 +131,6 @@ undo_said Of n (Err (undos.Blocked m)) before now old new refused a ok err put =
     undo_refused Of n (undos.Blocked m) before now old new refused
     a refl err put
 
--- what a clerk says to an undo, by an answer that equals the desk's
-pub undo_taken : (Of : BookModel → Type 0) (n : ℕ)
-    (answer told : Result (Unit {0}) UndoRefusal) (before now : List ℕ) (old new : ClerkModel)
-    (refused : Bool) → answer ≡ told → Undoing n Of told
-    → OnOk told (new ≡ with_receipt (Undid n) old) → OnErr told (new ≡ old)
-    → IsUndoPut n answer before now refused
-    → Says (MayUndo Of n) before now old.receipts new.receipts refused
-undo_taken Of n answer told before now old new refused taken its ok err put =
-    undo_said Of n answer before now old new refused
-    (subst (λ (r : Result (Unit {0}) UndoRefusal). Undoing n Of r) (sym taken) its)
-    (subst (λ (r : Result (Unit {0}) UndoRefusal). OnOk r (new ≡ with_receipt (Undid n) old))
-    (sym taken) ok)
-    (subst (λ (r : Result (Unit {0}) UndoRefusal). OnErr r (new ≡ old)) (sym taken) err)
-    put
-
 -- an undo takes none of the clerk's parts
 pub parts_undone : (n : ℕ) (answer : Result (Unit {0}) UndoRefusal) (old new : ClerkModel)
     → OnOk answer (new ≡ with_receipt (Undid n) old) → OnErr answer (new ≡ old)
@@ -154,18 +139,20 @@ parts_undone n (Ok u) old new ok err = ap (λ (c : ClerkModel). c.parts) ok
 parts_undone n (Err e) old new ok err = ap (λ (c : ClerkModel). c.parts) err
 
 -- what a clerk says to an arrival that is entered
-pub arrival_made : (Of : BookModel → Type 0) (k : Key) (n : ℕ) (keys : List Key)
-    (before now : List ℕ) (old new : ClerkModel)
+arrival_made : (Of : BookModel → Type 0) (k : Key) (n : ℕ) (keys : List Key)
+    (before now : List ℕ) (old new : ClerkModel) (refused : Bool)
     → Arriving k Of (Ok n)
     → new ≡ with_receipt (arrival_receipt k n) old → keys ≡ k ∷ []
-    → now ≡ before ++ entry_made n keys
-    → Says (MayArrive Of k) before now old.receipts new.receipts false
-arrival_made Of k n keys before now old new its got own put = (
-  makes n (k ∷ []) [] (arrival_receipt k n),
-  (its.0, its.1, Ok n, its.2, its.3, refl),
-  made_said n (k ∷ []) [] before now now (arrival_receipt k n) old new
-      (put ∙ ap (λ (ks : List Key). before ++ entry_made n ks) own) (sym (append-nil now)) got,
-)
+    → IsPut (entry_made n keys) false before now refused
+    → Says (MayArrive Of k) before now old.receipts new.receipts refused
+arrival_made Of k n keys before now old new refused its got own put =
+    let line = ap (λ (ks : List Key). entry_made n ks) own
+    ∙ sym (append-nil (entry_made n (k ∷ []))) in (
+      makes n (k ∷ []) [] (arrival_receipt k n),
+      (its.0, its.1, Ok n, its.2, its.3, refl),
+      made_said n (k ∷ []) [] before now (arrival_receipt k n) old new refused
+          (subst (λ (l : List ℕ). IsPut l false before now refused) line put) got,
+    )
 
 -- an arrival takes none of the clerk's parts
 pub parts_arrived : (k : Key) (answer : Result ℕ ArriveRefusal) (old new : ClerkModel)
@@ -175,7 +162,7 @@ parts_arrived k (Ok n) old new ok err = ap (λ (c : ClerkModel). c.parts) ok
 parts_arrived k (Err e) old new ok err = ap (λ (c : ClerkModel). c.parts) err
 
 -- what a clerk says to an arrival that is refused
-pub arrival_refused : (Of : BookModel → Type 0) (k : Key) (e : ArriveRefusal)
+arrival_refused : (Of : BookModel → Type 0) (k : Key) (e : ArriveRefusal)
     (before now : List ℕ) (old new : ClerkModel) (refused : Bool)
     → Arriving k Of (Err e)
     → new ≡ old → IsArrivalRefused e before now refused
@@ -194,14 +181,29 @@ arrival_refused Of k (arrivals.DoesNotApply s) before now old new refused its sa
 )
 arrival_refused Of k arrivals.NoMemory before now old new refused a same put = absurd put
 
--- what a clerk says to a sweep that finds something: it has the receipt when the entry is read
-pub sweep_made : (Of : ℕ → List Receipt → BookModel → Type 0) (n : ℕ) (b : BookModel)
-    (before now : List ℕ) (old mid new : ClerkModel)
+-- what a clerk says to an arrival
+pub arrival_said : (Of : BookModel → Type 0) (k : Key) (answer : Result ℕ ArriveRefusal)
+    (keys : List Key) (before now : List ℕ) (old new : ClerkModel) (refused : Bool)
+    → Arriving k Of answer → IfOk answer (λ n. new ≡ with_receipt (arrival_receipt k n) old)
+    → OnErr answer (new ≡ old)
+    → ((front : List Receipt) (n : ℕ) (kind : Kind) (own : List Key)
+    → new.receipts ≡ front ++ Made n kind own ∷ [] → keys ≡ own)
+    → IsArrivalTold answer keys before now refused
+    → Says (MayArrive Of k) before now old.receipts new.receipts refused
+arrival_said Of k (Ok n) keys before now old new refused its ok err own put =
+    arrival_made Of k n keys before now old new refused its ok
+    (own old.receipts n kinds.Arrive (k ∷ []) (ap (λ (c : ClerkModel). c.receipts) ok)) put
+arrival_said Of k (Err e) keys before now old new refused its ok err own put =
+    arrival_refused Of k e before now old new refused its err put
+
+-- what a clerk says to a sweep that finds something: it has the receipt when the entry is seen
+sweep_made : (Of : ℕ → List Receipt → BookModel → Type 0) (n : ℕ) (b : BookModel)
+    (before now : List ℕ) (old mid new : ClerkModel) (refused : Bool)
     → Sweeping (Of old.parts old.receipts) (Ok (Some n)) → Of mid.parts mid.receipts b
     → mid ≡ with_receipt (Swept n) old → new ≡ mid
-    → now ≡ before ++ entry_made n (keys_at b.history.journal n)
-    → Says (MaySweep (Of old.parts) old.receipts) before now old.receipts new.receipts false
-sweep_made Of n b before now old mid new a of got still put =
+    → IsPut (entry_made n (keys_at b.history.journal n)) false before now refused
+    → Says (MaySweep (Of old.parts) old.receipts) before now old.receipts new.receipts refused
+sweep_made Of n b before now old mid new refused a of got still put =
     let keys = keys_at b.history.journal n in (
       makes n keys [] (Swept n),
       (
@@ -212,9 +214,30 @@ sweep_made Of n b before now old mid new a of got still put =
         a.3,
         (b, subst (λ (c : ClerkModel). Of c.parts c.receipts b) got of, refl),
       ),
-      made_said n keys [] before now now (Swept n) old new put (sym (append-nil now))
-          (still ∙ got),
+      made_said n keys [] before now (Swept n) old new refused
+          (subst (λ (l : List ℕ). IsPut l false before now refused)
+          (sym (append-nil (entry_made n keys))) put) (still ∙ got),
     )
+
+-- what a clerk says to a sweep whose entry is seen
+pub sweep_seen : {S : Type 0} (bytes : S → List ℕ) (Of : ℕ → List Receipt → BookModel → Type 0)
+    (n : ℕ) (answer : Result (Option ℕ) AllocError) (seen : Result S AllocError)
+    (before now : List ℕ) (old mid new : ClerkModel) (refused : Bool)
+    → answer ≡ Ok (Some n) → Sweeping (Of old.parts old.receipts) answer
+    → IfOk answer (λ swept. MatchOption swept (mid ≡ old) (λ m. mid ≡ with_receipt (Swept m) old))
+    → ((b : BookModel) × Of mid.parts mid.receipts b
+    × IfOk seen (λ text. bytes text ≡ entry_made n (keys_at b.history.journal n)))
+    → new ≡ mid → IsOkAnd seen (λ text. IsPut (bytes text) false before now refused)
+    → Says (MaySweep (Of old.parts) old.receipts) before now old.receipts new.receipts refused
+sweep_seen bytes Of n answer (Err e) before now old mid new refused is its ok looked still put =
+    absurd put
+sweep_seen bytes Of n answer (Ok text) before now old mid new refused is its ok looked still put =
+    let told = subst (λ (r : Result (Option ℕ) AllocError). Sweeping (Of old.parts old.receipts) r)
+    is its in
+    let got = subst (λ (r : Result (Option ℕ) AllocError). IfOk r (λ swept.
+    MatchOption swept (mid ≡ old) (λ m. mid ≡ with_receipt (Swept m) old))) is ok in
+    sweep_made Of n looked.0 before now old mid new refused told looked.1 got still
+    (subst (λ (l : List ℕ). IsPut l false before now refused) looked.2 put)
 
 -- a sweep takes none of the clerk's parts
 pub parts_swept : (answer : Result (Option ℕ) AllocError) (old new : ClerkModel)
@@ -227,37 +250,55 @@ parts_swept (Ok (Some n)) old new ok err = ap (λ (c : ClerkModel). c.parts) ok
 parts_swept (Err e) old new ok err = ap (λ (c : ClerkModel). c.parts) err
 
 -- what a clerk says to a sweep that finds nothing
-pub sweep_none : (Of : List Receipt → BookModel → Type 0) (before now : List ℕ)
-    (old new : ClerkModel) → Sweeping (Of old.receipts) (Ok None) → new ≡ old
-    → now ≡ before ++ ended (codes "nothing to sweep")
-    → Says (MaySweep Of old.receipts) before now old.receipts new.receipts false
-sweep_none Of before now old new a same put = (
-  tells (ended (codes "nothing to sweep")),
-  (a.0, a.1, None, a.2, a.3, refl),
-  record {
-    text_is = put;
-    receipts_are = ap (λ (c : ClerkModel). c.receipts) same ∙ sym (append-nil old.receipts);
-    refusal = refl;
-  },
-)
+sweep_none : (Of : List Receipt → BookModel → Type 0)
+    (answer : Result (Option ℕ) AllocError) (before now : List ℕ)
+    (old new : ClerkModel) (refused : Bool) → answer ≡ Ok None → Sweeping (Of old.receipts) answer
+    → IfOk answer (λ swept. MatchOption swept (new ≡ old) (λ m. new ≡ with_receipt (Swept m) old))
+    → IsPut (ended (codes "nothing to sweep")) false before now refused
+    → Says (MaySweep Of old.receipts) before now old.receipts new.receipts refused
+sweep_none Of answer before now old new refused is its ok put =
+    let a = subst (λ (r : Result (Option ℕ) AllocError). Sweeping (Of old.receipts) r) is its in
+    let same = subst (λ (r : Result (Option ℕ) AllocError). IfOk r (λ swept.
+    MatchOption swept (new ≡ old) (λ m. new ≡ with_receipt (Swept m) old))) is ok in (
+      tells (ended (codes "nothing to sweep")),
+      (a.0, a.1, None, a.2, a.3, refl),
+      record {
+        text_is = put.text_is;
+        receipts_are = ap (λ (c : ClerkModel). c.receipts) same ∙ sym (append-nil old.receipts);
+        refusal = put.refusal;
+      },
+    )
+
+-- what a clerk says to a sweep that finds nothing, unless memory runs out
+pub sweep_unmade : (Of : List Receipt → BookModel → Type 0)
+    (answer : Result (Option ℕ) AllocError) (r : Result Bool AllocError) (before now : List ℕ)
+    (old new : ClerkModel) → OnOk r (answer ≡ Ok None) → Sweeping (Of old.receipts) answer
+    → IfOk answer (λ swept. MatchOption swept (new ≡ old) (λ m. new ≡ with_receipt (Swept m) old))
+    → IfOk r (IsPut (ended (codes "nothing to sweep")) false before now)
+    → IfOk r (Says (MaySweep Of old.receipts) before now old.receipts new.receipts)
+sweep_unmade Of answer (Ok refused) before now old new is its ok put =
+    sweep_none Of answer before now old new refused is its ok put
+sweep_unmade Of answer (Err e) before now old new is its ok put = tt
 
 -- what a clerk says to a command that is entered: the keys are those of its receipt
-pub command_made : (Of : BookModel → Type 0) (c : CommandParts) (t : Taken)
-    (keys : List Key) (before mid now : List ℕ) (old new : ClerkModel)
+command_made : (Of : BookModel → Type 0) (c : CommandParts) (t : Taken)
+    (keys : List Key) (before now : List ℕ) (old new : ClerkModel) (refused : Bool)
     → Commanding c Of old new (Ok t)
     → ((front : List Receipt) (n : ℕ) (kind : Kind) (own : List Key)
     → new.receipts ≡ front ++ Made n kind own ∷ [] → keys ≡ own)
-    → mid ≡ before ++ entry_made t.number keys → now ≡ mid ++ flat_map skip_line t.skips
-    → Says (MayCommand Of c) before now old.receipts new.receipts false
-command_made Of c t keys before mid now old new its own put behind =
+    → IsPut (entry_made t.number keys ++ flat_map skip_line t.skips) false before now refused
+    → Says (MayCommand Of c) before now old.receipts new.receipts refused
+command_made Of c t keys before now old new refused its own put =
     let kept = without (named_by c its.0) t.skips in
     let same = own old.receipts t.number (kind_of c) kept
     (ap (λ (x : ClerkModel). x.receipts) its.4) in (
       makes t.number kept (flat_map skip_line t.skips) (command_receipt c its.0 t),
       (its.0, its.1, Ok t, its.2, its.3, refl),
-      made_said t.number kept (flat_map skip_line t.skips) before mid now
-          (command_receipt c its.0 t) old new
-          (put ∙ ap (λ (ks : List Key). before ++ entry_made t.number ks) same) behind its.4,
+      made_said t.number kept (flat_map skip_line t.skips) before now
+          (command_receipt c its.0 t) old new refused
+          (subst (λ (ks : List Key).
+          IsPut (entry_made t.number ks ++ flat_map skip_line t.skips) false before now refused)
+          same put) its.4,
     )
 
 -- a command takes none of the clerk's parts
@@ -271,7 +312,7 @@ parts_commanded table origin opened parts had c (Err e) old new its err =
     ap (λ (x : ClerkModel). x.parts) err
 
 -- what a clerk says to a command that is refused
-pub command_refused : (Of : BookModel → Type 0) (c : CommandParts) (e : CommandRefusal)
+command_refused : (Of : BookModel → Type 0) (c : CommandParts) (e : CommandRefusal)
     (before now : List ℕ) (old new : ClerkModel) (refused : Bool)
     → Commanding c Of old new (Err e) → new ≡ old → IsCommandRefused e before now refused
     → Says (MayCommand Of c) before now old.receipts new.receipts refused
@@ -286,26 +327,50 @@ command_refused Of c (commands.NothingApplies skips) before now old new refused 
 )
 command_refused Of c commands.NoMemory before now old new refused a same put = absurd put
 
+-- what a clerk says to a command
+pub command_said : (Of : BookModel → Type 0) (c : CommandParts)
+    (answer : Result Taken CommandRefusal) (keys : List Key) (before now : List ℕ)
+    (old new : ClerkModel) (refused : Bool) → Commanding c Of old new answer
+    → OnErr answer (new ≡ old)
+    → ((front : List Receipt) (n : ℕ) (kind : Kind) (own : List Key)
+    → new.receipts ≡ front ++ Made n kind own ∷ [] → keys ≡ own)
+    → IsCommandTold answer keys before now refused
+    → Says (MayCommand Of c) before now old.receipts new.receipts refused
+command_said Of c (Ok t) keys before now old new refused its err own put =
+    command_made Of c t keys before now old new refused its own put
+command_said Of c (Err e) keys before now old new refused its err own put =
+    command_refused Of c e before now old new refused its err put
+
 -- what a clerk says to what changes nothing
-pub shown_said : (Of : BookModel → Type 0) (reply : History → Reply) (b seen : BookModel)
-    (shown : Shown) (before now : List ℕ) (receipts : List Receipt) (refused : Bool)
-    → Of b → seen ≡ b → IsShown (reply seen.history) shown
-    → now ≡ before ++ string_bytes shown.text → refused ≡ shown.refused
+pub shown_said : (Of : BookModel → Type 0) (reply : History → Reply)
+    (answer : Result Shown AllocError) (before now : List ℕ) (receipts : List Receipt)
+    (refused : Bool) → ((b : BookModel) × Of b × IfOk answer (IsShown (reply b.history)))
+    → IsOkAnd answer (λ shown. (now ≡ before ++ string_bytes shown.text)
+    × (refused ≡ shown.refused))
     → Says (MayShow Of reply) before now receipts receipts refused
-shown_said Of reply b seen shown before now receipts refused of same is put said =
-    let its = subst (λ (x : BookModel). IsShown (reply x.history) shown) same is in (
+shown_said Of reply (Err e) before now receipts refused seen put = absurd put
+shown_said Of reply (Ok shown) before now receipts refused seen put =
+    let b = seen.0 in (
       record {
         text = (reply b.history).text;
         refused = (reply b.history).refused;
         receipts = [];
       },
-      (b, of, refl),
+      (b, seen.1, refl),
       record {
-        text_is = put ∙ ap (λ (l : List ℕ). before ++ l) its.0;
+        text_is = put.0 ∙ ap (λ (l : List ℕ). before ++ l) seen.2.0;
         receipts_are = sym (append-nil receipts);
-        refusal = said ∙ its.1;
+        refusal = put.1 ∙ seen.2.1;
       },
     )
+
+-- what is put of a view is put of an equal one
+pub viewed : (report : Option (Table → List ℕ)) (b : BookModel) (view own : View)
+    (r : Result Bool AllocError) (before now : List ℕ) → view ≡ own
+    → IfOk r (Answers (shown_by report b.history own) b b before now)
+    → IfOk r (Answers (shown_by report b.history view) b b before now)
+viewed report b view own r before now is put =
+    subst (λ (v : View). IfOk r (Answers (shown_by report b.history v) b b before now)) (sym is) put
 
 -- an answer to a request is one to an equal request
 pub asked_for : (Of : List Receipt → BookModel → Type 0) (s : Setting) (q request : Request)

@@ -1,5 +1,5 @@
 -- The answers to the lines so far, at a desk.
-use Rattle.std.proofs.Common.{◌≡◌, ℕ, ◌+◌, ◌≤◌, List, [], ◌∷◌, length, Option}
+use Rattle.std.proofs.Common.{◌≡◌, ℕ, ◌+◌, ◌≤◌, ◌<◌, List, [], ◌∷◌, length, Option}
 use Rattle.std.proofs.Common.{None, Some, Bor, refl, sym, subst, arith}
 use Rattle.std.specs.Prelude.{string_bytes}
 use Rattle.atomic_table.specs.Seated.{TableId}
@@ -24,11 +24,11 @@ pub record IsSoFar (table : TableId) (origin : Origin) (opened : List Mark) (par
       → AreTold (MayReply (IsMetBy table origin opened parts) s) (lines_of script) untold last
   pub counted : told.refused + left_len rest ≤ length script + 1
 
-pub so_far-begun : (table : TableId) (origin : Origin) (opened : List Mark) (parts : ℕ)
+so_far-script : (table : TableId) (origin : Origin) (opened : List Mark) (parts : ℕ)
     (s : Setting) (script : Bor (List ℕ))
     (receipts : List Receipt) (told : ToldText) → string_bytes told.text ≡ [] → told.refused ≡ 0
     → receipts ≡ [] → IsSoFar table origin opened parts s script.now receipts told (Some script)
-so_far-begun table origin opened parts s script receipts told text none got =
+so_far-script table origin opened parts s script receipts told text none got =
     let same : told_with told receipts ≡ untold =
     (λ i. record { text = text i; refused = none i; receipts = got i }) in
     record {
@@ -38,12 +38,21 @@ so_far-begun table origin opened parts s script receipts told text none got =
       counted = omega (arith, none);
     }
 
+pub so_far-begun : (table : TableId) (origin : Origin) (opened : List Mark) (parts : ℕ)
+    (s : Setting) (script : Bor (List ℕ))
+    (receipts : List Receipt) (told : ToldText) (rest : Option (Bor (List ℕ)))
+    → string_bytes told.text ≡ [] → told.refused ≡ 0 → receipts ≡ [] → rest ≡ Some script
+    → IsSoFar table origin opened parts s script.now receipts told rest
+so_far-begun table origin opened parts s script receipts told rest text none got at =
+    subst (λ (r : Option (Bor (List ℕ))).
+    IsSoFar table origin opened parts s script.now receipts told r) (sym at)
+    (so_far-script table origin opened parts s script receipts told text none got)
+
 pub so_far-next : (table : TableId) (origin : Origin) (opened : List Mark) (parts : ℕ) (s : Setting)
     (script line : List ℕ)
-    (old new : List Receipt) (before after : ToldText) (rest : Bor (List ℕ))
-    (more : Option (Bor (List ℕ)))
-    → IsSoFar table origin opened parts s script old before (Some rest)
-    → lines_of rest.now ≡ line ∷ lines_left more → left_len more ≤ length rest.now
+    (old new : List Receipt) (before after : ToldText) (rest more : Option (Bor (List ℕ)))
+    → IsSoFar table origin opened parts s script old before rest
+    → lines_left rest ≡ line ∷ lines_left more → left_len more < left_len rest
     → after.refused ≤ before.refused + 1
     → IsReplied table origin opened parts s line (told_with before old) (told_with after new)
     → IsSoFar table origin opened parts s script new after more
@@ -71,3 +80,16 @@ so_far-done table origin opened parts s script receipts told rest h none =
     AreTold (MayReply (IsMetBy table origin opened parts) s) (lines_left r)
     (told_with told receipts)
     (told_with told receipts)) (sym none) refl)
+
+-- a telling with this text and so many refusals tells it so, too
+pub so_told : (table : TableId) (origin : Origin) (opened : List Mark) (parts : ℕ) (s : Setting)
+    (script : List ℕ) (receipts : List Receipt) (told last : ToldText)
+    → string_bytes last.text ≡ string_bytes told.text → last.refused ≡ told.refused
+    → AreAnswered table origin opened parts s script receipts told
+    → AreAnswered table origin opened parts s script receipts last
+so_told table origin opened parts s script receipts told last text refused answered =
+    let same : told_with last receipts ≡ told_with told receipts =
+    (λ i. record { text = text i; refused = refused i; receipts = receipts }) in
+    subst (λ (t : Told).
+    AreTold (MayReply (IsMetBy table origin opened parts) s) (lines_of script) untold t) (sym same)
+    answered

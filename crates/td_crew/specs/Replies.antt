@@ -5,9 +5,11 @@ use Rattle.std.specs.Prelude.{Result, Ok, Err, codes, decimal, string_bytes}
 use Rattle.std.specs.List.{flat_map}
 use Rattle.td_rows.specs.declared.key.Key.{Key}
 use Rattle.td_rows.specs.StateWord.{state_word}
+use Rattle.td_rows.specs.Table.{Table, row_of}
 use Rattle.td_journal.specs.declared.entry.Marked.{Marked}
 use Rattle.td_journal.specs.Entries.{entry_at}
-use Rattle.td_core.specs.History.{History}
+use Rattle.td_journal.specs.JournalText.{journal_text}
+use Rattle.td_core.specs.History.{History, rows_of}
 use Rattle.td_wbread.specs.declared.fault.CommandFault.{CommandFault}
 use Rattle.td_wbread.specs.Command.{CommandParts, command_at}
 use Rattle.td_book.specs.declared.arriving.ArriveRefusal.{ArriveRefusal}
@@ -25,12 +27,17 @@ use Rattle.td_desk.specs.declared.receipt.Receipt.TheVariants.{Swept, Undid}
 use Rattle.td_desk.specs.Calls.{UndoTold, arrival_receipt, command_receipt, without}
 use Rattle.td_script.specs.declared.request.Request.{Request}
 use Rattle.td_script.specs.declared.request.Request.TheVariants.{Undo, Arrive, Sweep}
+use Rattle.td_script.specs.declared.request.Request.TheVariants as requests
 use Rattle.td_script.specs.declared.line.Said.{Said}
 use Rattle.td_script.specs.declared.line.Said.TheVariants.{Skipped, Asked, Bad, Typed}
 use Rattle.td_script.specs.Reading.{said_at}
 use Rattle.td_script.specs.Replies.{Reply, Setting, asks, ended, entry_made, fault_name}
-use Rattle.td_script.specs.Replies.{refusal_line, skip_line, undo_name}
+use Rattle.td_script.specs.Replies.{refusal_line, reports, says, shows_entry, shows_row}
+use Rattle.td_script.specs.Replies.{skip_line, undo_name}
+use Rattle.td_script.specs.Replying.{IsArrivalRefused, IsCommandRefused, IsPut}
 use Rattle.td_crew.specs.declared.shown.Shown.{Shown}
+use Rattle.td_crew.specs.declared.shown.View.{View}
+use Rattle.td_crew.specs.declared.shown.View.TheVariants as views
 
 -- what a clerk says to a line: a text, whether the line is refused, and the receipts that it got
 pub record DeskReply : Type 0 where
@@ -162,6 +169,31 @@ abbrev pub MayReply : (List Receipt → BookModel → Type 0) → Setting → Li
 MayReply Of s had line r = MaySay Of s had line (said_at line) r
 
 -- ---- as the code has it
+
+-- the request of a line that asks to see this of a book
+abbrev pub request_of : View → Request
+request_of (views.Row k) = requests.Row k.now
+request_of (views.Entry n) = requests.Entry n
+request_of views.Report = requests.Report
+request_of views.Journal = requests.Journal
+
+-- what a history shows of that, with what makes the report, if there is a tracker
+abbrev pub shown_by : Option (Table → List ℕ) → History → View → Reply
+shown_by report h (views.Row k) = shows_row h k.now (row_of (rows_of h) k.now)
+shown_by report h (views.Entry n) = shows_entry h n
+shown_by report h views.Report = reports h report
+shown_by report h views.Journal = says h (journal_text h.journal)
+
+-- what is written of the answer to a command, with these as the keys of its entry
+abbrev pub IsCommandTold : Result Taken CommandRefusal → List Key → List ℕ → List ℕ → Bool → Type 0
+IsCommandTold (Ok t) keys before now refused =
+    IsPut (entry_made t.number keys ++ flat_map skip_line t.skips) false before now refused
+IsCommandTold (Err e) keys before now refused = IsCommandRefused e before now refused
+
+-- what is written of the answer to an arrival, with these as the keys of its entry
+abbrev pub IsArrivalTold : Result ℕ ArriveRefusal → List Key → List ℕ → List ℕ → Bool → Type 0
+IsArrivalTold (Ok n) keys before now refused = IsPut (entry_made n keys) false before now refused
+IsArrivalTold (Err e) keys before now refused = IsArrivalRefused e before now refused
 
 -- a book shows this of a reply that changes nothing
 abbrev pub IsShown : Reply → Shown → Type 0

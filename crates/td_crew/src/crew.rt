@@ -20,6 +20,7 @@ ghost use Rattle.td_crew.specs.Lines.{FitAnyBook};
 use crate::building::serve;
 use crate::lines::Lines;
 use crate::shift::Shift;
+use crate::telling::{Telling, told_of};
 use crate::told::tell_lines;
 use std::alloc::{AllocError, Global};
 use std::marker::Brand;
@@ -33,7 +34,7 @@ use td_builder::Builds;
 use td_desk::{Clerk, Desk, Hired, Homes, Named, PARTS, Shut, hire};
 use td_journal::ReadError;
 use td_report::Transition;
-use td_rows::{Rows, rows_text};
+use td_rows::Rows;
 use td_script::{Asked, Reports, Staff, Told};
 use td_supply::Supply;
 
@@ -57,16 +58,16 @@ fn tell_all<N: Named, C: Ledger, T: Reports, R: Wait>(
     desk: &Desk<'_, N, C>,
     clerk: Clerk<C>,
     lines: &Lines<'_, '_, T>,
-) -> Result<(Told, Clerk<C>, Shut<N>), Shut<N>>
+) -> Result<(Telling<N>, Clerk<C>, Shut<N>), Shut<N>>
     requires fits { FitAnyBook T.fits lines.now.reports }
     requires archs { table lines.now.archs.now ≡ N.origin.stock.table }
     requires new { clerk.receipts ≡ [] }
     requires may_shut { N.may_shut ≡ true }
     ensures parts { IfOk result (λ made. made.1.parts ≡ clerk.parts) }
-    ensures few { IfOk result (λ made. made.0.refused ≤ length lines.now.script.now + 1) }
+    ensures few { IfOk result (λ made. made.0.told.refused ≤ length lines.now.script.now + 1) }
     ensures told { IfOk result (λ made. AreAnswered N.table N.origin N.opened clerk.parts
         (setting_lent T.text N.origin.stock lines.now.suites.now lines.now.reports)
-        lines.now.script.now made.1.receipts made.0) }
+        lines.now.script.now made.1.receipts made.0.told) }
 {
     let mut clerk = clerk;
     match tell_lines(rt, desk, &mut clerk, lines) {
@@ -84,31 +85,31 @@ fn tell_beside<N: Named + Send + Sync, C: Ledger + Send + Sync, T: Reports>(
     hired: Vec<Hired<N>>,
     builds: impl Builds + Copy + Send + Sync,
     lines: &Lines<'_, '_, T>,
-) -> Result<(Told, Clerk<C>, Shut<N>), Shut<N>>
+) -> Result<(Telling<N>, Clerk<C>, Shut<N>), Shut<N>>
     requires fits { FitAnyBook T.fits lines.now.reports }
     requires archs { table lines.now.archs.now ≡ N.origin.stock.table }
     requires new { clerk.receipts ≡ [] }
     requires may_shut { N.may_shut ≡ true }
     ensures parts { IfOk result (λ made. made.1.parts ≡ clerk.parts) }
-    ensures few { IfOk result (λ made. made.0.refused ≤ length lines.now.script.now + 1) }
+    ensures few { IfOk result (λ made. made.0.told.refused ≤ length lines.now.script.now + 1) }
     ensures told { IfOk result (λ made. AreAnswered N.table N.origin N.opened clerk.parts
         (setting_lent T.text N.origin.stock lines.now.suites.now lines.now.reports)
-        lines.now.script.now made.1.receipts made.0) }
+        lines.now.script.now made.1.receipts made.0.told) }
 {
     thread::scope(
         thread::scope_env(),
         rt,
-        |scope| -> Result<(Told, Clerk<C>, Shut<N>), Shut<N>>
+        |scope| -> Result<(Telling<N>, Clerk<C>, Shut<N>), Shut<N>>
             requires fits { FitAnyBook T.fits lines.now.reports }
             requires archs { table lines.now.archs.now ≡ N.origin.stock.table }
             requires new { clerk.receipts ≡ [] }
             requires may_shut { N.may_shut ≡ true }
             ensures parts { IfOk result (λ made. made.1.parts ≡ clerk.parts) }
             ensures few { IfOk result (λ made.
-                made.0.refused ≤ length lines.entry.now.script.now + 1) }
+                made.0.told.refused ≤ length lines.entry.now.script.now + 1) }
             ensures told { IfOk result (λ made. AreAnswered N.table N.origin N.opened clerk.parts
                 (setting_lent T.text N.origin.stock lines.entry.now.suites.now
-                lines.entry.now.reports) lines.entry.now.script.now made.1.receipts made.0) }
+                lines.entry.now.reports) lines.entry.now.script.now made.1.receipts made.0.told) }
         {
             for one in hired {
                 // (a builder without a thread is missing)
@@ -128,7 +129,7 @@ fn tell_in_shift<N: Named + Send + Sync, C: Ledger + Send + Sync, T: Reports>(
     seats: Vec<BuilderSeat>,
     builds: impl Builds + Copy + Send + Sync,
     lines: &Lines<'_, '_, T>,
-) -> Result<(Told, Clerk<C>, Homes<N>), AllocError>
+) -> Result<(Telling<N>, Clerk<C>, Homes<N>), AllocError>
     requires seats { All (λ s. s.table ≡ N.table) seats.items }
     requires few { length seats.items ≤ max_builders }
     requires staffed { N.origin.builders ≡ length seats.items }
@@ -138,33 +139,22 @@ fn tell_in_shift<N: Named + Send + Sync, C: Ledger + Send + Sync, T: Reports>(
     requires may_shut { N.may_shut ≡ true }
     ensures parts { IfOk result (λ made. made.1.parts ≡ clerk.parts) }
     ensures few { IfOk result (λ made.
-        made.0.refused ≤ length lines.now.script.now + length seats.items + 1) }
+        made.0.told.refused ≤ length lines.now.script.now + length seats.items + 1) }
     ensures told { IfOk result (λ made. IsShift N.table N.origin N.opened clerk.parts
         (setting_lent T.text N.origin.stock lines.now.suites.now lines.now.reports)
         lines.now.script.now (length seats.items) (length seats.items - made.2.count)
-        made.1.receipts made.0) }
+        made.1.receipts made.0.told) }
 {
     let (hired, homes) = hire::<N>(lines.alloc, seats)?;
     let shift = Shift::new(desk, homes);
     match tell_beside(rt, &shift, clerk, hired, builds, lines) {
         Ok((mut told, clerk, _shut)) => {
             let homes = shift.end()?;
-            told.refused += homes.missing();
+            told.miss(&homes);
             Ok((told, clerk, homes))
         }
         Err(_shut) => Err(AllocError),
     }
-}
-
-// Appends the rows of a book to the answers.
-fn tell_rows(alloc: Global, told: Told, book: &Book<'_>) -> Result<Told, AllocError>
-    ensures { IfOk result (HasRows told book.now.history) }
-{
-    let mut told = told;
-    told.text.push_str("rows\n")?;
-    let rows = rows_text(alloc, book.rows())?;
-    told.text.push_str(rows.as_str())?;
-    Ok(told)
 }
 
 // A list of only this clerk.
@@ -199,11 +189,12 @@ fn close<N: Named, C: Ledger>(
     alloc: Global,
     desk: Desk<'_, N, C>,
     clerk: Clerk<C>,
-    told: Told,
-) -> Result<Told, AllocError>
-    requires room { told.refused < 2 ^ 64 - 1 }
+    telling: Telling<N>,
+) -> Result<Telling<N>, AllocError>
+    requires room { telling.told.refused < 2 ^ 64 - 1 }
     requires parts { clerk.parts ≡ 1024 }
-    ensures { IfOk result (IsClosed N.table N.origin N.opened clerk.receipts told) }
+    ensures { IfOk result (λ closed.
+        IsClosed N.table N.origin N.opened clerk.receipts telling.told closed.told) }
 {
     let clerks = match alone(alloc, clerk) {
         Ok(clerks) => clerks,
@@ -213,11 +204,9 @@ fn close<N: Named, C: Ledger>(
         }
     };
     let (book, refusals) = closed(desk, clerks);
-    let mut told = told;
-    told.refused += refusals;
-    let told = tell_rows(alloc, told, &book);
+    let closed = telling.close(alloc, &book, refusals);
     drop(book);
-    told
+    closed
 }
 
 // What a crew at this desk answers to a script.
@@ -228,7 +217,7 @@ fn tell_at<N: Named + Send + Sync, C: Ledger + Send + Sync, T: Reports>(
     seats: Vec<BuilderSeat>,
     builds: impl Builds + Copy + Send + Sync,
     lines: &Lines<'_, '_, T>,
-) -> Result<Told, AllocError>
+) -> Result<Telling<N>, AllocError>
     requires seats { All (λ s. s.table ≡ N.table) seats.items }
     requires few { length seats.items ≤ max_builders }
     requires staffed { N.origin.builders ≡ length seats.items }
@@ -238,12 +227,12 @@ fn tell_at<N: Named + Send + Sync, C: Ledger + Send + Sync, T: Reports>(
     requires opened { N.opened ≡ marks_begun N.origin.journal }
     requires short { IsShort N.origin.journal }
     requires may_shut { N.may_shut ≡ true }
-    ensures { IfOk result (EndsFrom (length seats.items)
+    ensures { IfOk result (λ telling. EndsFrom (length seats.items)
         (setting_lent T.text N.origin.stock lines.now.suites.now lines.now.reports)
-        N.origin.journal N.origin.rows lines.now.script.now) }
+        N.origin.journal N.origin.rows lines.now.script.now telling.told) }
 {
-    let (told, clerk, _homes) = tell_in_shift(rt, &desk, clerk, seats, builds, lines)?;
-    close(lines.alloc, desk, clerk, told)
+    let (telling, clerk, _homes) = tell_in_shift(rt, &desk, clerk, seats, builds, lines)?;
+    close(lines.alloc, desk, clerk, telling)
 }
 
 // The desk over these rows: before the first entry, or with the journal that is gone on with.
@@ -298,7 +287,7 @@ fn tell_if_begun<N: Named + Send + Sync, C: Ledger + Send + Sync, T: Reports>(
     seats: Vec<BuilderSeat>,
     builds: impl Builds + Copy + Send + Sync,
     lines: &Lines<'_, '_, T>,
-) -> Result<Told, ReadError>
+) -> Result<Telling<N>, ReadError>
     requires seats { All (λ s. s.table ≡ N.table) seats.items }
     requires few { length seats.items ≤ max_builders }
     requires staffed { N.origin.builders ≡ length seats.items }
@@ -308,15 +297,15 @@ fn tell_if_begun<N: Named + Send + Sync, C: Ledger + Send + Sync, T: Reports>(
     requires opened { N.opened ≡ marks_begun N.origin.journal }
     requires short { OnOk begun (IsShort N.origin.journal) }
     requires may_shut { N.may_shut ≡ true }
-    ensures told { IfOk result (EndsFrom (length seats.items)
+    ensures told { IfOk result (λ telling. EndsFrom (length seats.items)
         (setting_lent T.text N.origin.stock lines.now.suites.now lines.now.reports)
-        N.origin.journal N.origin.rows lines.now.script.now) }
+        N.origin.journal N.origin.rows lines.now.script.now telling.told) }
     ensures refused { IfErr begun.entry (λ fault. result ≡ Err fault) }
     ensures memory { OnOk begun.entry (IfErr result (λ fault. fault ≡ ReadError.NoMemory)) }
 {
     match begun {
         Ok((desk, clerk)) => match tell_at(rt, desk, clerk, seats, builds, lines) {
-            Ok(told) => Ok(told),
+            Ok(telling) => Ok(telling),
             Err(AllocError) => Err(ReadError::NoMemory),
         },
         Err(fault) => Err(fault),
@@ -334,7 +323,7 @@ fn tell_named<N: Named + Send + Sync, C: Ledger + Send + Sync, T: Reports>(
     blank: Blank,
     builds: impl Builds + Copy + Send + Sync,
     lines: &Lines<'_, '_, T>,
-) -> Result<Told, ReadError>
+) -> Result<Telling<N>, ReadError>
     requires board { board.table ≡ N.table }
     requires seat { seat.table ≡ N.table }
     requires seats { All (λ s. s.table ≡ N.table) seats.items }
@@ -356,9 +345,9 @@ fn tell_named<N: Named + Send + Sync, C: Ledger + Send + Sync, T: Reports>(
     requires archs { table lines.now.archs.now ≡ (stock_of supply).table }
     requires may_shut { N.may_shut ≡ true }
     ensures begun { OnOk result (HasBegun (option_map (λ s. s.now) lines.now.journal) rows) }
-    ensures told { IfOk result (EndsFrom (length seats.items)
+    ensures told { IfOk result (λ telling. EndsFrom (length seats.items)
         (setting_lent T.text (stock_of supply.entry) lines.now.suites.now lines.now.reports)
-        (option_map (λ s. s.now) lines.now.journal) rows lines.now.script.now) }
+        (option_map (λ s. s.now) lines.now.journal) rows lines.now.script.now telling.told) }
     ensures fault { IfErr result (IsJournalFault rows (option_map (λ s. s.now) lines.now.journal)) }
     ensures only { IfErr result (λ fault.
         IsJournalIfGiven rows (option_map (λ s. s.now) lines.now.journal)
@@ -395,7 +384,7 @@ pub fn tell_script<B: Builds + Copy + Send + Sync, R: Threads + Wait + Sync>(
         journal: asked.journal,
         script: asked.script,
     };
-    tell_named::<Brand, Brand, Transition<'_, '_, '_, '_>>(
+    let telling = tell_named::<Brand, Brand, Transition<'_, '_, '_, '_>>(
         rt,
         board,
         seat,
@@ -405,5 +394,6 @@ pub fn tell_script<B: Builds + Copy + Send + Sync, R: Threads + Wait + Sync>(
         Blank::new(PARTS),
         builds,
         &lines,
-    )
+    );
+    told_of(telling)
 }

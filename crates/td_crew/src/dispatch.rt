@@ -9,11 +9,12 @@ ghost use Rattle.td_crew.specs.Replies.{MayReply, MayType, Says};
 
 use crate::answering::{ask, command};
 use crate::lines::Lines;
+use crate::words::Words;
 use std::alloc::AllocError;
 use std::sync::Wait;
 use std::sync::ledger::Ledger;
 use td_desk::{Clerk, Desk, Named};
-use td_script::{Reports, Said, put_refusal, read_line};
+use td_script::{Reports, Said, read_line};
 use td_wbread::{CommandFault, read_command};
 
 // The answer to a line that is typed.
@@ -23,18 +24,20 @@ fn type_in<N: Named, C: Ledger, T: Reports, R: Wait>(
     clerk: &mut Clerk<C>,
     lines: &Lines<'_, '_, T>,
     line: &str,
-    out: &mut String,
+    out: &mut Words<'_, N>,
 ) -> Result<bool, AllocError>
+    requires { out.old.turn.line.now ≡ line.now }
+    ensures turn { out.new.turn ≡ out.old.turn }
     ensures parts { clerk.new.parts ≡ clerk.old.parts }
     ensures says { IfOk result (Says (MayType
         (IsMetBy N.table N.origin N.opened clerk.old.parts clerk.old.receipts)
         (command_at (table lines.now.archs.now) (map (λ s. s.now) lines.now.suites.now) line.now))
-        (string_bytes out.old) (string_bytes out.new) clerk.old.receipts clerk.new.receipts) }
+        (string_bytes out.old.text) (string_bytes out.new.text) clerk.old.receipts clerk.new.receipts) }
 {
     match read_command(lines.alloc, line, lines.archs, lines.suites) {
-        Ok(typed) => command(rt, desk, clerk, &typed, out),
+        Ok(typed) => command(rt, desk, clerk, lines, &typed, out),
         Err(CommandFault::Wrong(fault, _)) => {
-            put_refusal(out, fault.name())?;
+            out.fault(fault)?;
             Ok(true)
         }
         Err(CommandFault::NoMemory) => Err(AllocError),
@@ -48,22 +51,24 @@ pub fn answer<N: Named, C: Ledger, T: Reports, R: Wait>(
     clerk: &mut Clerk<C>,
     lines: &Lines<'_, '_, T>,
     line: &str,
-    out: &mut String,
+    out: &mut Words<'_, N>,
 ) -> Result<bool, AllocError>
     requires fits { FitAnyBook T.fits lines.now.reports }
     requires archs { table lines.now.archs.now ≡ N.origin.stock.table }
+    requires line { out.old.turn.line.now ≡ line.now }
+    ensures turn { out.new.turn ≡ out.old.turn }
     ensures parts { clerk.new.parts ≡ clerk.old.parts }
     ensures says { IfOk result (Says (MayReply
         (IsMetBy N.table N.origin N.opened clerk.old.parts)
         (setting_lent T.text N.origin.stock lines.now.suites.now lines.now.reports)
         clerk.old.receipts line.now)
-        (string_bytes out.old) (string_bytes out.new) clerk.old.receipts clerk.new.receipts) }
+        (string_bytes out.old.text) (string_bytes out.new.text) clerk.old.receipts clerk.new.receipts) }
 {
     match read_line(lines.alloc, line)? {
         Said::Skipped => Ok(false),
         Said::Asked(request) => ask(rt, desk, clerk, lines, &request, out),
         Said::Bad => {
-            put_refusal(out, "BadLine")?;
+            out.bad_line()?;
             Ok(true)
         }
         Said::Typed => type_in(rt, desk, clerk, lines, line, out),

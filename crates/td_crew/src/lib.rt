@@ -18,7 +18,9 @@ mod lines;
 mod running;
 mod shift;
 mod shown;
+mod telling;
 mod told;
+mod words;
 
 pub use crew::{Crew, tell_script};
 pub use running::{CrewFault, run_crew, run_crew_with};

@@ -7,12 +7,20 @@ ghost use Rattle.td_crew.specs.Lines.{FitAnyBook};
 
 use crate::dispatch::answer;
 use crate::lines::Lines;
+use crate::telling::Telling;
+use crate::words::Words;
 use std::alloc::AllocError;
 use std::sync::Wait;
 use std::sync::ledger::Ledger;
 use td_desk::{Clerk, Desk, Named};
-use td_script::{Reports, Told};
-use td_text::next_line;
+use td_script::Reports;
+
+// The answers so far, and how many of them are refusals.
+#[derive(Drop)]
+struct SoFar<'s, N: Named> {
+    words: Words<'s, N>,
+    refused: u64,
+}
 
 // Answers one line more.
 fn add_line<N: Named, C: Ledger, T: Reports, R: Wait>(
@@ -21,18 +29,23 @@ fn add_line<N: Named, C: Ledger, T: Reports, R: Wait>(
     clerk: &mut Clerk<C>,
     lines: &Lines<'_, '_, T>,
     line: &str,
-    told: &mut Told,
+    told: &mut SoFar<'_, N>,
 ) -> Result<(), AllocError>
     requires fits { FitAnyBook T.fits lines.now.reports }
     requires archs { table lines.now.archs.now ≡ N.origin.stock.table }
     requires room { told.old.refused < 2 ^ 63 }
+    requires line { told.old.words.turn.line.now ≡ line.now }
+    ensures turn { told.new.words.turn ≡ told.old.words.turn }
     ensures parts { clerk.new.parts ≡ clerk.old.parts }
     ensures few { OnOk result (told.new.refused ≤ told.old.refused + 1) }
     ensures replied { OnOk result (IsReplied N.table N.origin N.opened clerk.old.parts
         (setting_lent T.text N.origin.stock lines.now.suites.now lines.now.reports) line.now
-        (told_with told.old clerk.old.receipts) (told_with told.new clerk.new.receipts)) }
+        (told_with (record { text = told.old.words.text; refused = told.old.refused })
+        clerk.old.receipts)
+        (told_with (record { text = told.new.words.text; refused = told.new.refused })
+        clerk.new.receipts)) }
 {
-    if answer(rt, desk, clerk, lines, line, &mut told.text)? {
+    if answer(rt, desk, clerk, lines, line, &mut told.words)? {
         told.refused += 1;
     }
     Ok(())
@@ -45,25 +58,23 @@ pub fn tell_lines<N: Named, C: Ledger, T: Reports, R: Wait>(
     desk: &Desk<'_, N, C>,
     clerk: &mut Clerk<C>,
     lines: &Lines<'_, '_, T>,
-) -> Result<Told, AllocError>
+) -> Result<Telling<N>, AllocError>
     requires fits { FitAnyBook T.fits lines.now.reports }
     requires archs { table lines.now.archs.now ≡ N.origin.stock.table }
     requires new { clerk.old.receipts ≡ [] }
     ensures parts { clerk.new.parts ≡ clerk.old.parts }
-    ensures few { IfOk result (λ told. told.refused ≤ length lines.now.script.now + 1) }
-    ensures told { IfOk result (AreAnswered N.table N.origin N.opened clerk.old.parts
+    ensures few { IfOk result (λ telling.
+        telling.told.refused ≤ length lines.now.script.now + 1) }
+    ensures told { IfOk result (λ telling. AreAnswered N.table N.origin N.opened clerk.old.parts
         (setting_lent T.text N.origin.stock lines.now.suites.now lines.now.reports)
-        lines.now.script.now clerk.new.receipts) }
+        lines.now.script.now clerk.new.receipts telling.told) }
 {
-    let mut told = Told {
-        text: String::new(lines.alloc),
+    let mut told = SoFar {
+        words: Words::new(lines.alloc, lines.script),
         refused: 0,
     };
-    let mut rest = Some(lines.script);
-    while let Some(left) = rest {
-        let (line, after) = next_line(left);
+    while let Some(line) = told.words.next() {
         add_line(rt, desk, clerk, lines, line, &mut told)?;
-        rest = after;
     }
-    Ok(told)
+    Ok(Telling::of(told.words, told.refused))
 }

@@ -1,6 +1,6 @@
 //! The answers to the calls of builders and clerks. Each is made of the book under the lock, as it
 //! was before the call and as the call leaves it: no body can make one up.
-ghost use Rattle.std.specs.Prelude.{◌≡◌};
+ghost use Rattle.std.specs.Prelude.{◌≡◌, None, MatchResult};
 ghost use Rattle.td_core.specs.History.{rows_of};
 ghost use Rattle.td_wbread.specs.Views.{parts_of};
 ghost use Rattle.td_book.specs.Arriving.{ArriveOutcome, SweepOutcome};
@@ -286,6 +286,16 @@ impl<N: Named> Swept<N> {
         Swept {
             answer,
             of: PhantomData,
+        }
+    }
+
+    /// The number of its entry, if it made one, while the answer is still to be taken out.
+    pub fn entry(&self) -> Option<EntryNo>
+        ensures { MatchResult self.now.answer (λ swept. result ≡ swept) (λ _. result ≡ None) }
+    {
+        match self.answer {
+            Ok(swept) => swept,
+            Err(AllocError) => None,
         }
     }
 }

@@ -11,7 +11,7 @@ ghost use Rattle.td_core.specs.Phases.{NoneBuilt};
 ghost use Rattle.td_book.specs.Desk.{BookModel};
 ghost use Rattle.td_journal.specs.declared.entry.Marked.{Marked as MarkedValue};
 ghost use Rattle.td_journal.specs.JournalFile.{IsJournalText, FaultOf};
-ghost use Rattle.td_desk.specs.Calls.{IsMetBy, IsOfDesk};
+ghost use Rattle.td_desk.specs.Calls.{IsOfDesk};
 ghost use Rattle.td_desk.specs.Changes.{changes, still_undone};
 ghost use Rattle.td_desk.specs.GoingOn.{Begins};
 ghost use Rattle.td_desk.specs.Marks.{marks_in, IsNamedJournal};
@@ -172,24 +172,6 @@ impl<'a, N: Named, C: Ledger> Desk<'a, N, C> {
             × FnOnceReturnsAt F.FnOnce f book result }
     {
         let locked = self.locked.lock(rt);
-        f(locked.book())
-    }
-
-    /// Lends the locked book to a clerk. If the clerk has all parts, the book has as many changes
-    /// as the clerk has receipts.
-    pub fn look_as<T, F: FnOnce(&Book<'a>) -> T, R: Wait>(
-        &self,
-        rt: &R,
-        clerk: &mut Clerk<C>,
-        f: F,
-    ) -> T
-        requires { F.IsAlwaysCallable f }
-        ensures same { clerk.new ≡ clerk.old }
-        ensures seen { (book : BookModel)
-            × IsMetBy N.table N.origin N.opened clerk.old.parts clerk.old.receipts book
-            × FnOnceReturnsAt F.FnOnce f book result }
-    {
-        let locked = self.locked.lock_as(rt, &mut clerk.share);
         f(locked.book())
     }
 

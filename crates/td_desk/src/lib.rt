@@ -36,6 +36,6 @@ pub use desk::{Desk, PARTS};
 pub use hired::{Hired, hire};
 pub use home::{Home, Homes};
 pub use locked::Shut;
-pub use looking::Looks;
+pub use looking::{Looks, Seen};
 pub use named::Named;
 pub use receipt::Receipt;

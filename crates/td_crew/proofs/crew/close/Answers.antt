@@ -15,8 +15,8 @@ returns g c =
     let more = c.closed-book.result.1 in
     let found = changes g.N.Named.opened book in
     let mid : Told = record {
-      text = c.args.told.text;
-      refused = c.args.told.refused + more;
+      text = c.args.telling.told.text;
+      refused = c.args.telling.told.refused + more;
     } in
     let closed = subst (λ (rs : List Receipt). IsClosing rs found more)
     (append-nil c.args.clerk.receipts)
@@ -27,8 +27,8 @@ returns g c =
     (subst (λ (cs : List ClerkModel).
     all_parts cs ≡ 1024 → length (all_receipts cs) ≡ length found)
     c.in-Ok.ensures c.closed-book.ensures.counted (omega (arith, c.requires.parts))) in
-    IfOk-weaker c.tell_rows-told.result _ _
-    (λ now. rows_closed g.N.Named.table g.N.Named.origin g.N.Named.opened c.args.clerk.receipts
-    c.args.told mid now book more c.closed-book.ensures.of_desk c.closed-book.ensures.still
+    IfOk-weaker c.close-closed.result _ _
+    (λ closing. rows_closed g.N.Named.table g.N.Named.origin g.N.Named.opened c.args.clerk.receipts
+    c.args.telling.told mid closing.told book more c.closed-book.ensures.of_desk c.closed-book.ensures.still
     counted closed refl refl)
-    c.tell_rows-told.ensures
+    c.close-closed.ensures

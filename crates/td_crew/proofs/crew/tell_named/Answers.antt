@@ -19,10 +19,10 @@ returns-clause-begun g c =
 pub returns-clause-told : goal.returns-clause-told
 returns-clause-told g c =
     IfOk-weaker c.tell_if_begun.result _ _
-    (λ told. subst (λ (o : Origin).
+    (λ telling. subst (λ (o : Origin).
     EndsFrom (length c.args.seats.items)
     (setting_lent g.T.Reports.text o.stock c.args.lines.now.suites.now c.args.lines.now.reports)
-    o.journal o.rows c.args.lines.now.script.now told) c.requires.origin)
+    o.journal o.rows c.args.lines.now.script.now telling.told) c.requires.origin)
     c.tell_if_begun.ensures.told
 
 pub returns-clause-fault : goal.returns-clause-fault

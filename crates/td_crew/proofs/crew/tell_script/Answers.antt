@@ -11,34 +11,34 @@ use Rattle.td_script.specs.Asking.{journal_asked, setting_asked}
 use Rattle.td_indices.specs.Supplying.{supply_of}
 use Rattle.td_script.specs.Reporting.{report_by}
 use Rattle.td_crew.specs.CrewText.{EndsFrom}
-use Rattle.td_crew.proofs.Endings.{told_ok}
+use Rattle.td_crew.proofs.Endings.{taken_err, taken_ok, taken_on, told_ok}
 use Rattle.td_crew.proofs.crew.tell_script.Goals as goal
 
-pub tell_named-requires-clause-seats : goal.tell_named-requires-clause-seats
-tell_named-requires-clause-seats g c κs within =
+pub tell_named-telling-requires-clause-seats : goal.tell_named-telling-requires-clause-seats
+tell_named-telling-requires-clause-seats g c κs within =
     seats_at c.in-Ok.board.table 1 c.args.crew.builders c.in-Ok.seats.items
     c.in-Ok.ensures.ok.builder_seats
 
-pub tell_named-requires-clause-few : goal.tell_named-requires-clause-few
-tell_named-requires-clause-few g c κs within =
+pub tell_named-telling-requires-clause-few : goal.tell_named-telling-requires-clause-few
+tell_named-telling-requires-clause-few g c κs within =
     subst (λ (n : ℕ). n ≤ max_builders)
     (sym (length-seats c.in-Ok.board.table 1 c.args.crew.builders c.in-Ok.seats.items
     c.in-Ok.ensures.ok.builder_seats)) c.args.crew.few
 
-pub tell_named-requires-clause-staffed : goal.tell_named-requires-clause-staffed
-tell_named-requires-clause-staffed g c κs within =
+pub tell_named-telling-requires-clause-staffed : goal.tell_named-telling-requires-clause-staffed
+tell_named-telling-requires-clause-staffed g c κs within =
     ap (λ (s : DeskModel). length s.desk.noted) c.in-Ok.ensures.ok.desk_seat
     ∙ length-replicate c.args.crew.builders []
     ∙ sym (length-seats c.in-Ok.board.table 1 c.args.crew.builders c.in-Ok.seats.items
     c.in-Ok.ensures.ok.builder_seats)
 
-pub tell_named-requires-clause-fresh_seat : goal.tell_named-requires-clause-fresh_seat
-tell_named-requires-clause-fresh_seat g c κs within =
+pub tell_named-telling-requires-clause-fresh_seat : goal.tell_named-telling-requires-clause-fresh_seat
+tell_named-telling-requires-clause-fresh_seat g c κs within =
     desk_at c.in-Ok.board.table _ c.args.crew.builders (length c.args.asked.rows) c.in-Ok.seat
     c.in-Ok.ensures.ok.desk_seat c.len.ensures.len
 
-pub tell_named-requires-clause-fresh_supply : goal.tell_named-requires-clause-fresh_supply
-tell_named-requires-clause-fresh_supply g c κs within = fresh_supply _ _ c.in-Ok-supply.ensures
+pub tell_named-telling-requires-clause-fresh_supply : goal.tell_named-telling-requires-clause-fresh_supply
+tell_named-telling-requires-clause-fresh_supply g c κs within = fresh_supply _ _ c.in-Ok-supply.ensures
 
 pub returns : goal.returns
 returns g c =
@@ -47,7 +47,7 @@ returns g c =
     c.in-Ok.ensures.ok.builder_seats in
     let stock = stock-opened _ _ c.in-Ok-supply.ensures in
     let Ends = λ (n : ℕ) (k : Stock) (suites : List (List ℕ)).
-    IfOk c.tell_named.result (EndsFrom n
+    IfOk c.told_of.result (EndsFrom n
     (record {
       stock = k;
       suites = suites;
@@ -60,11 +60,16 @@ returns g c =
     (subst (λ (k : Stock). Ends (length c.in-Ok.seats.items) k (asked.suite.now ∷ [])) stock
     (subst (λ (suites : List (List ℕ)).
     Ends (length c.in-Ok.seats.items) (stock_of c.in-Ok-supply.supply) suites) one
-    c.tell_named.ensures.told)) in
+    (taken_ok c.tell_named-telling.result c.told_of.result (λ t. t.told) _ c.told_of.ensures
+    c.tell_named-telling.ensures.told))) in
     record {
       told = told_ok c.args.crew.builders (setting_asked asked) (journal_asked asked)
-          asked.rows asked.script.now c.tell_named.result c.tell_named.ensures.begun
+          asked.rows asked.script.now c.told_of.result
+          (taken_on c.tell_named-telling.result c.told_of.result (λ t. t.told) _ c.told_of.ensures
+          c.tell_named-telling.ensures.begun)
           ends;
-      fault = c.tell_named.ensures.fault;
-      only = c.tell_named.ensures.only;
+      fault = taken_err c.tell_named-telling.result c.told_of.result (λ t. t.told) _ c.told_of.ensures
+          c.tell_named-telling.ensures.fault;
+      only = taken_err c.tell_named-telling.result c.told_of.result (λ t. t.told) _ c.told_of.ensures
+          c.tell_named-telling.ensures.only;
     }

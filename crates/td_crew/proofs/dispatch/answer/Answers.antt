@@ -12,10 +12,10 @@ returns-in-Skipped-clause-says g c =
     c.args.line.now _ _ c.in_ok-read_line.field-0 c.in_ok-read_line.ensures
     c.in-Skipped.is
 
-pub returns-in_ok-put_refusal-in-Bad-clause-says : goal.returns-in_ok-put_refusal-in-Bad-clause-says
-returns-in_ok-put_refusal-in-Bad-clause-says g c =
+pub returns-in_ok-bad_line-in-Bad-clause-says : goal.returns-in_ok-bad_line-in-Bad-clause-says
+returns-in_ok-bad_line-in-Bad-clause-says g c =
     bad_said (IsMetBy g.N.Named.table g.N.Named.origin g.N.Named.opened c.args.clerk.now.parts)
     (setting_lent g.T.Reports.text g.N.Named.origin.stock c.args.lines.now.suites.now
     c.args.lines.now.reports)
     c.args.line.now _ _ _ c.in_ok-read_line.field-0 c.in_ok-read_line.ensures
-    c.in-Bad.is c.in_ok-put_refusal-in-Bad.ensures.ok
+    c.in-Bad.is c.in_ok-bad_line-in-Bad.ensures.ok

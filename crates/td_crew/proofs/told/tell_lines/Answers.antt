@@ -1,35 +1,58 @@
 -- The lines are answered one after the other.
-use Rattle.std.proofs.Common.{◌≡◌, ℕ, None, refl, rules, subst, ◌∙◌}
+use Rattle.std.proofs.Common.{List, ap, refl, subst, sym, ◌∙◌, ℕ}
+use Rattle.std.specs.Prelude.{string_bytes}
 use Rattle.td_script.specs.Settings.{setting_lent}
+use Rattle.td_crew.specs.declared.words.Turn.{Turn}
 use Rattle.td_crew.specs.CrewText.{IsReplied, told_with}
-use Rattle.td_crew.proofs.ToldSoFar.{IsSoFar, so_far-begun, so_far-done, so_far-next}
+use Rattle.td_crew.proofs.ToldSoFar.{IsSoFar, so_far-begun, so_far-done, so_far-next, so_told}
 use Rattle.td_crew.proofs.told.tell_lines.Goals as goal
 
-pub loop-rest-init : goal.loop-rest-init
-loop-rest-init g c = (
-  so_far-begun _ _ _ _ _ c.args.lines.now.script _ _ c.new.ensures.bytes refl c.requires.new,
+pub loop-line-init : goal.loop-line-init
+loop-line-init g c = (
+  so_far-begun _ _ _ _ _ c.args.lines.now.script _ _ _ c.new.ensures.text refl c.requires.new
+      c.new.ensures.rest,
   refl,
 )
 
-pub loop-rest-preserved : goal.loop-rest-preserved
-loop-rest-preserved g c =
-    let h = subst (IsSoFar _ _ _ _ _ c.args.lines.now.script.now c.loop-rest.clerk.receipts
-    c.loop-rest.told) c.in-Some.is c.loop-rest.invariant.0 in
-    let replied = subst (λ (parts : ℕ).
+pub loop-line-preserved : goal.loop-line-preserved
+loop-line-preserved g c =
+    let told = c.loop-line.told in
+    let more = c.add_line.new.told in
+    let mine = subst (λ (parts : ℕ).
     IsReplied g.N.Named.table g.N.Named.origin g.N.Named.opened parts
     (setting_lent g.T.Reports.text g.N.Named.origin.stock c.args.lines.now.suites.now
     c.args.lines.now.reports)
-    c.next_line.result.0.now (told_with c.loop-rest.told c.loop-rest.clerk.receipts)
-    (told_with c.add_line.new.told c.add_line.new.clerk.receipts)) c.loop-rest.invariant.1
-    c.in_ok-add_line.ensures.replied in (
-      so_far-next _ _ _ _ _ c.args.lines.now.script.now _ _ _ c.loop-rest.told
-          c.add_line.new.told c.in-Some.left c.next_line.result.1 h c.next_line.ensures.lines
-          c.next_line.ensures.shorter c.in_ok-add_line.ensures.few replied,
-      c.in_ok-add_line.ensures.parts ∙ c.loop-rest.invariant.1,
+    c.in-Some.line.now
+    (told_with (record { text = c.next.new.self.text; refused = told.refused })
+    c.loop-line.clerk.receipts)
+    (told_with (record { text = more.words.text; refused = more.refused })
+    c.add_line.new.clerk.receipts)) c.loop-line.invariant.1 c.in_ok-add_line.ensures.replied in
+    let replied = subst (λ (text : List ℕ).
+    IsReplied g.N.Named.table g.N.Named.origin g.N.Named.opened c.args.clerk.now.parts
+    (setting_lent g.T.Reports.text g.N.Named.origin.stock c.args.lines.now.suites.now
+    c.args.lines.now.reports)
+    c.in-Some.line.now
+    (record { text = text; refused = told.refused; receipts = c.loop-line.clerk.receipts })
+    (told_with (record { text = more.words.text; refused = more.refused })
+    c.add_line.new.clerk.receipts)) (ap string_bytes c.in-Some.ensures.text) mine in (
+      subst (IsSoFar _ _ _ _ _ c.args.lines.now.script.now c.add_line.new.clerk.receipts
+          (record { text = more.words.text; refused = more.refused }))
+          (sym (ap (λ (t : Turn). t.rest) c.in_ok-add_line.ensures.turn))
+          (so_far-next _ _ _ _ _ c.args.lines.now.script.now _ _ _
+          (record { text = told.words.text; refused = told.refused })
+          (record { text = more.words.text; refused = more.refused }) told.words.turn.rest
+          c.next.new.self.turn.rest c.loop-line.invariant.0 c.in-Some.ensures.lines
+          c.in-Some.ensures.shorter c.in_ok-add_line.ensures.few replied),
+      c.in_ok-add_line.ensures.parts ∙ c.loop-line.invariant.1,
     )
 
 pub returns-clause-told : goal.returns-clause-told
 returns-clause-told g c =
-    let none : c.loop-rest.rest ≡ None = search rules in
-    so_far-done _ _ _ _ _ c.args.lines.now.script.now _ c.loop-rest.told c.loop-rest.rest
-    c.loop-rest.invariant.0 none
+    let told = c.loop-line.told in
+    let setting = setting_lent g.T.Reports.text g.N.Named.origin.stock c.args.lines.now.suites.now
+    c.args.lines.now.reports in
+    so_told _ _ _ _ setting c.args.lines.now.script.now c.loop-line.clerk.receipts
+    (record { text = told.words.text; refused = told.refused }) c.of.result.told
+    (ap string_bytes (c.of.ensures.text ∙ c.in_default.ensures.text)) c.of.ensures.refused
+    (so_far-done _ _ _ _ setting c.args.lines.now.script.now c.loop-line.clerk.receipts _
+    told.words.turn.rest c.loop-line.invariant.0 c.in_default.ensures.none)

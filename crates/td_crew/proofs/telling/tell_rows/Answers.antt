@@ -4,7 +4,7 @@ use Rattle.std.specs.Prelude.{string_bytes}
 use Rattle.td_rows.specs.StateWriting.{state_text}
 use Rattle.td_script.specs.declared.told.Told.{Told}
 use Rattle.td_crew.proofs.Endings.{rows_put}
-use Rattle.td_crew.proofs.crew.tell_rows.Goals as goal
+use Rattle.td_crew.proofs.telling.tell_rows.Goals as goal
 
 pub returns : goal.returns
 returns c =
