@@ -48,7 +48,12 @@ impl<N: Named> Telling<N> {
     }
 
     /// The answers with so many refusals more, and then the rows of a book.
-    pub fn close(self, alloc: Global, book: &Book<'_>, refusals: u64) -> Result<Telling<N>, AllocError>
+    pub fn close(
+        self,
+        alloc: Global,
+        book: &Book<'_>,
+        refusals: u64,
+    ) -> Result<Telling<N>, AllocError>
         requires { self.told.refused + refusals < 2 ^ 64 }
         ensures { IfOk result (λ closed. HasRows
             (record { text = self.told.text; refused = self.told.refused + refusals })

@@ -22,8 +22,9 @@ use td_builder::Tells;
 use td_desk::{Arrived, Commanded, Named, Seen, Swept, Undone};
 use td_journal::EntryNo;
 use td_rows::Key;
-use td_script::{Reports, put_arrival_refusal, put_command_refusal, put_refusal, put_skips};
-use td_script::{put_taken, put_undo};
+use td_script::{
+    Reports, put_arrival_refusal, put_command_refusal, put_refusal, put_skips, put_taken, put_undo,
+};
 use td_text::next_line;
 use td_wbread::LineFault;
 
