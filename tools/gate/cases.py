@@ -50,9 +50,10 @@ def archive(name, roles=INDICES):
 
 
 def refused():
-    """The files that are refused, each with its role and the name of the refusal."""
+    """The files that are refused, each with its role and the name of the refusal. What follows that
+    name says what the file has."""
     for name in sorted(os.listdir(f"{EXAMPLES}/refused")):
-        role, _, fault = name.partition(".")
+        role, fault = name.split(".")[:2]
         yield role, fault, f"{EXAMPLES}/refused/{name}"
 
 

@@ -1,5 +1,8 @@
 """Files with faults, made here: what is said of each, by each subcommand that reads it."""
 
+import bz2
+import gzip
+import lzma
 import os
 
 import cases
@@ -17,17 +20,42 @@ SHOWN = "z" * 60
 AMD64 = "Package: yy\nVersion: 1\nArchitecture: amd64\n"
 OPEN = "a key and its query, as docs/FORMATS.md has trackers; at most 100 ( and ! are open"
 NO_ARCH = "an architecture, as NAME OS CPU"
+NO_NAME = "a name of small letters, digits and hyphens: no hyphen first, no any at either end"
+NO_OS = "an operating system of small letters and digits after one space, and not any"
+NO_CPU = "a processor of small letters and digits after one space, and not any"
+END = "a ; after each value, also the last, and an end of each text, pattern and bracket"
+WORDS = "& for and, | for or, ! for not"
+COMPARISON = "no comparison: a pattern on .version, or .depends ~ /liba1 \\(>= 3\\./"
+SLASH = "nothing right after a pattern: its flag is (?i) at its front, a slash within it \\/"
 # Files with faults: role, text, refusal, and what --explain says behind the role.
 MADE = [
     ("tracker", "", "MissingKey", "wanted: a key is_affected"),
     ("tracker", "is_affected = true; is_bad = true;", "MissingKey", "wanted: a key is_good"),
-    ("tracker", "is_affected", "Syntax", f'byte 11, line 1, column 12 has ""; wanted: {OPEN}'),
+    ("tracker", "is_affected", "Syntax", f'byte 11, line 1, column 12 has ""; wanted: {END}'),
+    ("tracker", 'title = "x', "Syntax", f'byte 10, line 1, column 11 has ""; wanted: {END}'),
+    ("tracker", "is_affected = .depends ~ /x", "Syntax",
+     f'byte 27, line 1, column 28 has ""; wanted: {END}'),
+    ("tracker", "is_affected = not true;", "Syntax",
+     f'byte 14, line 1, column 15 has "not true;"; wanted: {WORDS}'),
+    ("tracker", "is_affected = nothing;", "Syntax",
+     f'byte 14, line 1, column 15 has "nothing;"; wanted: {OPEN}'),
+    ("tracker", 'is_affected = .version != "1";', "Syntax",
+     f'byte 23, line 1, column 24 has "!= "1";"; wanted: {COMPARISON}'),
+    ("tracker", "is_affected = .file ~ /usr/lib/;", "Syntax",
+     f'byte 27, line 1, column 28 has "lib/;"; wanted: {SLASH}'),
     ("tracker", 'title = "x";\n\n\0', "Syntax",
      f'byte 14, line 3, column 1 has "\\x00"; wanted: {OPEN}'),
     ("tracker", f"is_affected = {'(' * 100}(true", "Syntax",
      f'byte 114, line 1, column 115 has "(true"; wanted: {OPEN}'),
     ("archs", "\ufeffamd64 linux amd64\n", "BadLine",
-     f'line 1 has "\ufeffamd64 linux amd64"; wanted: {NO_ARCH}'),
+     f'line 1 has "\ufeffamd64 linux amd64"; wanted: {NO_NAME}'),
+    ("archs", "any-amd64 linux amd64\n", "BadLine",
+     f'line 1 has "any-amd64 linux amd64"; wanted: {NO_NAME}'),
+    ("archs", "amd64 any amd64\n", "BadLine", f'line 1 has "amd64 any amd64"; wanted: {NO_OS}'),
+    ("archs", "amd64 linux amd64\r\n", "BadLine",
+     f'line 1 has "amd64 linux amd64\\x0d"; wanted: {NO_CPU}'),
+    ("archs", "i386 linux i386 x\n", "BadLine",
+     f'line 1 has "i386 linux i386 x"; wanted: {NO_CPU}'),
     ("archs", "# one\r\namd64\r\n", "BadLine", f'line 2 has "amd64\\x0d"; wanted: {NO_ARCH}'),
     ("sources",
      "Package: qb\nVersion: 1\nArchitecture: any\n\n \t\n\n"
@@ -79,7 +107,8 @@ def made(runs):
         for field in fields:
             path = runs.put("made", f"{AMD64}{field}: xx (\n")
             why = f"a relation in {field} as Debian Policy 7.1 has it"
-            why = f'{role}: stanza 1, line 1 has "Package: yy"; wanted: {why}'
+            why = f'{field} has "xx ("; wanted: {why}'
+            why = f'{role}: stanza 1, line 1 has "Package: yy"; {why}'
             by_each(runs, f"{field} of {role}", role, path, said_of(role, "BadRelation", why))
 
 
@@ -117,13 +146,32 @@ def long_texts(runs):
     runs.compare("an input too long, explained", found, 2, stderr=TOO_LONG + most.encode())
 
 
-def unread(role, why=None):
+def packed(runs):
+    """Files that are still packed. Of an unknown packing only the text is said that is wanted."""
+    text = AMD64.encode()
+    for what, content in (
+        ("gzip", gzip.compress(text)),
+        ("xz", lzma.compress(text)),
+        ("zstd", b"\x28\xb5\x2f\xfd" + text),
+        ("bzip2", bz2.compress(text)),
+        (None, b"\xfd7zXZ" + text),
+    ):
+        path = runs.put("packed", content)
+        why = "wanted: a text in UTF-8"
+        if what:
+            why = f'"{path}" is packed by {what}; {why}; unpack it first'
+        for role in ("archs", "packages", "sources", "tracker"):
+            said = said_of(role, "NotText", f"{role}: {why}")
+            by_each(runs, f"{role} packed by {what}", role, path, said)
+
+
+def unread(role, path, why=None):
     """What is said of a file that can't be read, and of why, if that is known."""
-    more = [f"{role}: wanted: {why}"] if why else []
+    more = [f'{role}: "{path}" {why}'] if why else []
     return said_of(role, "cannot read", *more)
 
 
-NOWHERE = "the path of a file that is there"
+NOWHERE = "isn't there; wanted: the path of a file that is there"
 
 
 def not_read(runs):
@@ -134,11 +182,11 @@ def not_read(runs):
     os.chmod(runs.put("secret", "amd64 linux amd64\n"), 0)
     os.symlink("loop", f"{runs.room}/loop")
     reasons = {
-        runs.room: "a file, and no folder",
+        runs.room: "is a folder; wanted: a file, and no folder",
         "nowhere": NOWHERE,
         "secret/in": NOWHERE,
-        "endless": "a file of at most 1073741824 bytes",
-        "secret": "a file that may be read",
+        "endless": "is too long; wanted: a file of at most 1073741824 bytes",
+        "secret": "may not be read; wanted: a file that may be read",
         "/dev/zero": None,
         "/proc/self/mem": None,
         "loop": None,
@@ -153,7 +201,7 @@ def not_read(runs):
     for path, why in reasons.items():
         changed = {"archs": path, "packages": "nowhere", "sources": "nowhere"}
         found = runs.end(words_of("check", changed, "--explain"))
-        runs.compare(f"{path[:20]}, not read and explained", found, 5, stderr=unread("archs", why))
+        runs.compare(f"{path[:20]}, not read and explained", found, 5, stderr=unread("archs", path, why))
 
 
 def missing(runs):
@@ -162,13 +210,13 @@ def missing(runs):
         for command in COMMANDS:
             found = runs.end(words_of(command, {role: "nowhere"}, "--explain"))
             runs.compare(f"{command} without {role}, explained", found, 5,
-                         stderr=unread(role, NOWHERE))
+                         stderr=unread(role, "nowhere", NOWHERE))
     no_text = runs.put("no-text", b"\xff")
     for role in ("state", "tracker", "outcomes", "journal"):
         builders = ["--builders", "1"] if role == "outcomes" else []
         found = runs.end(words_of("run", {role: "nowhere"}, "--explain", *builders))
         runs.compare(f"a {role} that isn't there, explained", found, 5,
-                     stderr=unread(role, NOWHERE))
+                     stderr=unread(role, "nowhere", NOWHERE))
         if role in ("journal", "outcomes"):
             found = runs.end(words_of("run", {role: no_text}, "--explain", *builders))
             said = said_of(role, "NotText", f"{role}: wanted: a text in UTF-8")
@@ -258,6 +306,6 @@ def strange_rows(runs):
 
 
 def run_all(runs):
-    for group in (made, journals, long_texts, not_read, missing, first_of_two, of_the_wrong_kind,
-                  strange_rows):
+    for group in (made, packed, journals, long_texts, not_read, missing, first_of_two,
+                  of_the_wrong_kind, strange_rows):
         group(runs)

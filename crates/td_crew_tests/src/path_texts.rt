@@ -2,7 +2,7 @@
 use std::alloc::Global;
 use std::thread::Threads;
 use td_bytes::TextFault;
-use td_tool::{Cause, Texts};
+use td_tool::{Cause, Packing, Texts, packing_of};
 
 /// Files that have their paths as texts, so that each path leads to one. One with an empty line is
 /// read as its front and its rest.
@@ -10,7 +10,7 @@ use td_tool::{Cause, Texts};
 pub(crate) struct PathTexts;
 
 impl Texts for PathTexts {
-    ghost use Rattle.std.specs.Prelude.{Some, is_none};
+    ghost use Rattle.std.specs.Prelude.{Some, is_none, true};
     ghost use Rattle.td_crew_tests.specs.PathTexts.{lacks_room};
 
     ghost bytes = { λ _ path. Some path };
@@ -18,6 +18,8 @@ impl Texts for PathTexts {
     ghost can_fail = { λ _ _ fault. lacks_room fault };
 
     ghost can_be = { λ _ _ _ cause. is_none cause };
+
+    ghost can_pack = { λ _ _ _. true };
 
     fn text(&self, alloc: Global, path: &str, limit: usize) -> Result<String, TextFault> {
         if path.len() > limit {
@@ -48,5 +50,9 @@ impl Texts for PathTexts {
 
     fn cause(&self, _path: &str, _limit: usize) -> Option<Cause> {
         None
+    }
+
+    fn packing(&self, path: &str) -> Option<Packing> {
+        packing_of(path.as_bytes())
     }
 }

@@ -3,9 +3,13 @@ use Rattle.std.specs.Prelude.{ℕ, zero, suc, ◌/◌, ◌%◌, List, [], ◌∷
 use Rattle.std.specs.Prelude.{if◌then◌else◌}
 use Rattle.std.specs.Char.{digit_char, is_control}
 
--- how many characters are shown
+-- how many characters of a text are shown
 abbrev pub max_shown : ℕ
 max_shown = 60
+
+-- how many characters of a path are shown: Linux takes no path of more bytes
+abbrev pub max_path : ℕ
+max_path = 4096
 
 -- `\x`, and the number of a control character in two hexadecimal digits
 abbrev pub escaped : ℕ → List ℕ
@@ -22,6 +26,6 @@ shown_from left [] = 34 ∷ []
 shown_from zero (c ∷ cs) = 34 ∷ 46 ∷ 46 ∷ 46 ∷ []
 shown_from (suc left) (c ∷ cs) = shown_char c ++ shown_from left cs
 
--- the characters between quotation marks
-abbrev pub shown : List ℕ → List ℕ
-shown cs = 34 ∷ shown_from max_shown cs
+-- the characters between quotation marks, this many at most
+abbrev pub shown : ℕ → List ℕ → List ℕ
+shown most cs = 34 ∷ shown_from most cs

@@ -1,4 +1,5 @@
 //! Laws of the definitions, for one who doubts them.
+ghost use Rattle.td_explain.specs.FlawLaws.{FlawsAreExact};
 ghost use Rattle.td_explain.specs.SpotLaws.{BytesAreExact, LinesAreExact, NoMoreAreFound};
 ghost use Rattle.td_explain.specs.SpotLaws.{StanzasAreFound};
 
@@ -10,4 +11,10 @@ pub fn places_are_found()
     ensures bytes { BytesAreExact }
     ensures stanzas { StanzasAreFound }
     ensures no_more { NoMoreAreFound }
+{}
+
+/// Something is wrong with a line of a table of architectures if and only if the line isn't an
+/// architecture's.
+pub fn arch_flaws_are_exact()
+    ensures { FlawsAreExact }
 {}

@@ -5,8 +5,11 @@ ghost use Rattle.td_explain.specs.Shown.{shown, shown_char};
 
 use std::alloc::AllocError;
 
-/// How many characters are shown.
-const MAX_SHOWN: usize = 60;
+/// How many characters of a text are shown.
+pub const MAX_SHOWN: usize = 60;
+
+/// How many characters of a path are shown: no path that the system takes has more bytes.
+pub const MAX_PATH: usize = 4096;
 
 // The digit of a number below 16.
 fn hex_digit(value: u32) -> char
@@ -33,12 +36,13 @@ fn put_char(out: &mut String, c: char) -> Result<(), AllocError>
     out.push(hex_digit(code % 16))
 }
 
-/// Appends the text's first characters between quotation marks.
-pub fn put_shown(out: &mut String, text: &str) -> Result<(), AllocError>
-    ensures { OnOk result (string_bytes out.new ≡ string_bytes out.old ++ shown (chars text.now)) }
+/// Appends the text's first characters, this many at most, between quotation marks.
+pub fn put_shown(out: &mut String, text: &str, most: usize) -> Result<(), AllocError>
+    ensures { OnOk result
+        (string_bytes out.new ≡ string_bytes out.old ++ shown most (chars text.now)) }
 {
     out.push_str("\"")?;
-    let mut left = MAX_SHOWN;
+    let mut left = most;
     let mut rest = text.chars();
     while let Some(c) = rest.next() {
         if left == 0 {

@@ -1,8 +1,11 @@
 //! Lines worked by hand: this project's own.
-use crate::checks::{is_told, made};
+use crate::checks::{is_same, is_told, made};
 use std::alloc::{AllocError, Global};
 use std::process::Abort;
-use td_explain::{Place, explain};
+use td_explain::{
+    ArchFlaw, Packing, Place, Stray, arch_flaw, explain, explain_path, explain_relation,
+    packing_of, stray_at,
+};
 
 /// A place, and the line that explains it.
 type Explained = (Place, &'static str);
@@ -124,4 +127,96 @@ fn is_cut(rt: &impl Abort, alloc: Global, behind: &str, end: &str) {
 fn a_long_line_is_cut(rt: HostRuntime) {
     is_cut(&rt, rt.alloc(), "", "\"; wanted: x\n");
     is_cut(&rt, rt.alloc(), "z", "\"...; wanted: x\n");
+}
+
+const BAD_RELATION: &str = "\
+Package: a
+
+Package: b
+Depends: foo (>= 1),
+ bar | baz (> 1), foo (
+";
+
+const BAD_SAID: &str = "packages: stanza 2, line 3 has \"Package: b\"; \
+depends has \"bar | baz (> 1)\"; wanted: x\n";
+
+// Policy 7.1 has no `>`.
+#[test]
+fn the_first_relation_that_cannot_be_read_is_shown(rt: HostRuntime) {
+    let line = explain_relation(rt.alloc(), "packages: ", 2, "depends", "x", BAD_RELATION);
+    is_told(&rt, line, BAD_SAID, "two stanzas");
+    let line = explain_relation(rt.alloc(), "", 1, "Depends", "x", BAD_RELATION);
+    is_told(
+        &rt,
+        line,
+        "stanza 1, line 1 has \"Package: a\"; wanted: x\n",
+        "no such field",
+    );
+}
+
+#[test]
+fn a_path_is_shown_with_what_is_said_of_it(rt: HostRuntime) {
+    let line = explain_path(rt.alloc(), "archs: ", "a\tb", "isn't there", "x");
+    is_told(
+        &rt,
+        line,
+        "archs: \"a\\x09b\" isn't there; wanted: x\n",
+        "a\\tb",
+    );
+}
+
+/// The first bytes that `gzip`, `xz`, `zstd` and `bzip2` write, and those of an index.
+const PACKED: [(&[u8], Option<Packing>); 5] = [
+    (&[31, 139, 8, 0], Some(Packing::Gzip)),
+    (&[253, 55, 122, 88, 90, 0, 0], Some(Packing::Xz)),
+    (&[40, 181, 47, 253, 4], Some(Packing::Zstd)),
+    (b"BZh91AY", Some(Packing::Bzip2)),
+    (b"Package: a", None),
+];
+
+#[test]
+fn packed_files_are_known_by_their_first_bytes(rt: HostRuntime) {
+    for (bytes, packing) in &PACKED {
+        is_same(&rt, &packing_of(bytes), packing, "a file");
+    }
+}
+
+const FORMS: &str = "a = .b ~ /x/i >= source 'and' \\\"x";
+
+/// What comes at a place of these forms.
+const STRAYS: [(usize, Stray); 8] = [
+    (0, Stray::Other),
+    (12, Stray::AfterSlash),
+    (14, Stray::Comparison),
+    (17, Stray::Source),
+    (24, Stray::Apostrophe),
+    (25, Stray::Word),
+    (32, Stray::AfterQuote),
+    (33, Stray::End),
+];
+
+#[test]
+fn what_comes_is_known_by_its_front(rt: HostRuntime) {
+    for (at, stray) in &STRAYS {
+        is_same(&rt, &stray_at(FORMS, *at), stray, FORMS);
+    }
+}
+
+const LINES: &str = "# one\namd64 linux x86_64\nall linux all\namd64\nAMD linux amd64\na any b\n";
+
+/// What is wrong with the lines of these numbers.
+const FLAWS: [(usize, ArchFlaw); 6] = [
+    (2, ArchFlaw::Cpu),
+    (3, ArchFlaw::Reserved),
+    (4, ArchFlaw::Words),
+    (5, ArchFlaw::Name),
+    (6, ArchFlaw::Os),
+    (9, ArchFlaw::Nothing),
+];
+
+#[test]
+fn the_first_wrong_word_of_a_line_is_named(rt: HostRuntime) {
+    for (number, flaw) in &FLAWS {
+        is_same(&rt, &arch_flaw(LINES, *number), flaw, LINES);
+    }
 }

@@ -25,7 +25,8 @@ use Rattle.td_tool.specs.declared.ending.Ending.TheVariants.{NoMemory}
 use Rattle.td_inputs.specs.declared.role.Role.{Role}
 use Rattle.td_tool.specs.Checks.{Checks, files_of}
 use Rattle.td_tool.specs.Ends.{Ends}
-use Rattle.td_tool.specs.Explained.{archive_paths, known_at, known_input, plan_paths, run_paths}
+use Rattle.td_tool.specs.Explained.{Given, archive_paths, known_at, known_input, plan_paths}
+use Rattle.td_tool.specs.Explained.{run_paths}
 use Rattle.td_tool.specs.Explained.{track_paths, waves_paths}
 use Rattle.td_tool.specs.Program.{IsTold, LeavesInput, OnlyIfAsked, RanFor, are_explained}
 use Rattle.td_tool.specs.Program.{files_asked, plan_files, waves_files, words_asked}
@@ -66,7 +67,7 @@ module _ (words : List (List ℕ)) (known left : Option (List ℕ))
 
   -- what was asked for has run, and is explained if that was asked for; or memory ran out for the
   -- words
-  answered : (Did : Ending → Type 0) (texts : Role → Option (List ℕ)) (Is : Request → Type 0)
+  answered : (Did : Ending → Type 0) (texts : Role → Given) (Is : Request → Type 0)
       (r : Result Call WordsFault) (explained : Bool)
       → ((q : Request) (b : Bool)
       → RanFor q b known left bytes can_fail reads writes old new before said status → Is q

@@ -7,74 +7,61 @@ use Rattle.std.specs.declared.alloc.Global.{Global}
 use Rattle.td_bytes.specs.Pieces.{AppendsPrefix}
 use Rattle.std.specs.Io.KnownBytes.{Appends, Keeps}
 use Rattle.std.proofs.KnownBytes.{Appends-trans}
-use Rattle.td_bytes.proofs.Prefixes.{AppendsPrefix-first, AppendsPrefix-second}
-use Rattle.td_explain.specs.declared.spot.Place.{Place}
-use Rattle.td_explain.specs.declared.spot.Place.TheVariants.{Whole, Line, Stanza, Byte}
+use Rattle.td_bytes.proofs.Prefixes.{AppendsPrefix-second}
 use Rattle.td_words.specs.declared.request.Request.{Request}
+use Rattle.td_words.specs.declared.request.Request.TheVariants as asked
 use Rattle.td_tool.specs.Ending.{line_of}
-use Rattle.td_tool.specs.Explained.{Causes, Explains, HasNone, IsKept, IsLookedAt, SaysAll, SaysOf}
-use Rattle.td_tool.specs.Explained.{TellsCause, TellsOwnCause, fault_line, line_if, paths_of}
-use Rattle.td_tool.specs.Explained.{unread_line}
-use Rattle.td_tool.specs.Places.{place_of}
+use Rattle.td_tool.specs.Explained.{Causes, Explains, Given, HasNone, IsKept, Packings, SaysAll}
+use Rattle.td_tool.specs.Explained.{SaysOf, TellsCause, TellsOwn, known_of_request, line_if}
+use Rattle.td_tool.specs.Explained.{paths_of, unread_line}
 use Rattle.td_tool.specs.declared.cause.Cause.{Cause}
 use Rattle.td_inputs.specs.declared.role.Role.{Role}
 use Rattle.td_tool.specs.declared.ending.Ended.{Ended}
 use Rattle.td_tool.specs.declared.ending.Ending.{Ending}
-use Rattle.td_tool.specs.declared.ending.Ending.TheVariants.{Done, Refused, BadInput, NoMemory}
-use Rattle.td_tool.specs.declared.ending.Ending.TheVariants.{CannotRead, CannotWrite}
+use Rattle.td_tool.specs.declared.ending.Ending.TheVariants.{CannotRead}
 use Rattle.td_tool.specs.declared.explaining.Unexplained.{Unexplained}
 use Rattle.td_tool.specs.declared.explaining.Unexplained.TheVariants as unexplained
 
--- ---- some line explains an ending
+-- ---- the files of a request
 
-known_text : (known : Option (List ℕ)) → (text : List ℕ) × IfSome known (λ all. all ≡ text)
-known_text None = ([], tt)
-known_text (Some all) = (all, refl)
-
-looked_at : (place : Place) (known : Option (List ℕ))
-    → (text : List ℕ) × IsLookedAt place known text
-looked_at Whole known = ([], tt)
-looked_at (Line n) known = known_text known
-looked_at (Stanza n) known = known_text known
-looked_at (Byte at) known = known_text known
-
-some_line : (ending : Ending) (known : Role → Option (List ℕ))
-    → (line : List ℕ) × Explains known ending line
-some_line Done known = ([], refl)
-some_line Refused known = ([], refl)
-some_line (BadInput r fault) known =
-    let seen = looked_at (place_of fault) (known r) in
-    (fault_line r fault seen.0, (seen.0, seen.1, refl))
-some_line NoMemory known = ([], refl)
-some_line (CannotRead r) known = ([], (None, refl))
-some_line CannotWrite known = ([], refl)
+-- the path that is known of a role is the request's
+path_known : (request : Request) (known : Option (List ℕ)) (bytes : List ℕ → Option (List ℕ))
+    (r : Role) → paths_of request r ≡ (known_of_request request known bytes r).path
+path_known asked.Simulate known bytes r = refl
+path_known (asked.Check files) known bytes r = refl
+path_known (asked.Track w) known bytes r = refl
+path_known (asked.Waves w) known bytes r = refl
+path_known (asked.Plan w) known bytes r = refl
+path_known (asked.Run w) known bytes r = refl
 
 -- a cause that a path may have is some cause
 some_cause : (can_be : Causes) (path : Option (List ℕ)) (r : Role) (line : List ℕ)
     → IsSomeAnd path (λ p. TellsCause can_be p r line)
-    → (cause : Option Cause) × (line ≡ unread_line r cause)
+    → (cause : Option Cause) × (line ≡ unread_line r path cause)
 some_cause can_be None r line told = absurd told
 some_cause can_be (Some p) r line told = (Some told.0, told.2)
 
 -- a line that tells a cause that the file may have explains that it isn't read
-pub own_cause_explains : (can_be : Causes) (known : Role → Option (List ℕ)) (request : Request)
-    (r : Role) (made : Result (Option (String Global)) Unexplained)
+pub own_cause_explains : (can_be : Causes) (request : Request) (known : Option (List ℕ))
+    (bytes : List ℕ → Option (List ℕ)) (r : Role)
+    (made : Result (Option (String Global)) Unexplained)
     → IfOk made (λ told. IfSome told (λ line. IsSomeAnd (paths_of request r)
     (λ path. TellsCause can_be path r (string_bytes line))))
-    → IfOk made (λ told. IfSome told (λ line. Explains known (CannotRead r) (string_bytes line)))
-own_cause_explains can_be known request r (Ok (Some line)) told =
-    some_cause can_be (paths_of request r) r (string_bytes line) told
-own_cause_explains can_be known request r (Ok None) told = tt
-own_cause_explains can_be known request r (Err e) told = tt
+    → IfOk made (λ told. IfSome told (λ line.
+    Explains (known_of_request request known bytes) (CannotRead r) (string_bytes line)))
+own_cause_explains can_be request known bytes r (Ok (Some line)) told =
+    subst (λ path. (cause : Option Cause) × (string_bytes line ≡ unread_line r path cause))
+    (path_known request known bytes r)
+    (some_cause can_be (paths_of request r) r (string_bytes line) told)
+own_cause_explains can_be request known bytes r (Ok None) told = tt
+own_cause_explains can_be request known bytes r (Err e) told = tt
 
 -- the line of the ending, or a front of it, is enough for `SaysOf`
-pub line_alone : (explained : Bool) (known : Role → Option (List ℕ)) (ending : Ending)
+pub line_alone : (explained : Bool) (known : Role → Given) (ending : Ending)
     (before said : Option (List ℕ)) → AppendsPrefix before said (line_of ending)
     → SaysOf explained known ending before said
 line_alone false known ending before said line = line
-line_alone true known ending before said line =
-    let some = some_line ending known in
-    (some.0, some.1, AppendsPrefix-first before said (line_of ending) some.0 line)
+line_alone true known ending before said line = inl line
 
 -- bytes that are written whole are written as a front of themselves
 whole_front : (before said : Option (List ℕ)) (bytes : List ℕ) → Appends before said bytes
@@ -88,33 +75,22 @@ pub front_said : {T E : Type 0} (before said : Option (List ℕ)) (bytes : List 
 front_said before said bytes (Ok u) whole front = whole_front before said bytes whole
 front_said before said bytes (Err e) whole front = front
 
--- a front of the explanation is written
-abbrev pub IsSaidOf : (Role → Option (List ℕ)) → Ending → Option (List ℕ) → Option (List ℕ) → Type 0
-IsSaidOf known ending said_before said =
-    (line : List ℕ) × Explains known ending line × AppendsPrefix said_before said line
+-- writing a front of nothing more leaves a front of the line
+nothing_said : (L : List ℕ) (before between said : Option (List ℕ)) → Appends before between L
+    → AppendsPrefix between said [] → AppendsPrefix before said L
+nothing_said L before between said line none =
+    subst (AppendsPrefix before said) (append-nil L)
+    (AppendsPrefix-second before between said L [] line none)
 
--- writing nothing is writing a front of the explanation
-nothing_said : (known : Role → Option (List ℕ)) (ending : Ending) (before said : Option (List ℕ))
-    → Appends before said [] → IsSaidOf known ending before said
-nothing_said known ending before said none =
-    let some = some_line ending known in
-    (some.0, some.1, ([], some.0, refl, none))
-
--- a front of a line that explains the ending is a front of the explanation
-line_said : (known : Role → Option (List ℕ)) (ending : Ending) (line : List ℕ)
-    (before said : Option (List ℕ)) → Explains known ending line
-    → AppendsPrefix before said line → IsSaidOf known ending before said
-line_said known ending line before said explains front = (line, explains, front)
-
--- the line of the ending, and after it a front of the explanation, are enough for `SaysOf`
-both_said : (known : Role → Option (List ℕ)) (ending : Ending)
-    (before between said : Option (List ℕ)) → Appends before between (line_of ending)
-    → IsSaidOf known ending between said → SaysOf true known ending before said
-both_said known ending before between said line is = (
-  is.0,
-  is.1,
-  AppendsPrefix-second before between said (line_of ending) is.0 line is.2,
-)
+-- what a line says, it says as one that there is
+pub told_some : (P : List ℕ → Type 0) (made : Result (String Global) Unexplained)
+    (told : Result (Option (String Global)) Unexplained) → IfOk made (λ text. told ≡ Ok (Some text))
+    → IfErr made (λ e. told ≡ Err e) → IfOk made (λ line. P (string_bytes line))
+    → IfOk told (λ t. IfSome t (λ line. P (string_bytes line)))
+told_some P (Ok text) told is err holds =
+    subst (λ x. IfOk x (λ t. IfSome t (λ line. P (string_bytes line)))) (sym is) holds
+told_some P (Err e) told is err holds =
+    subst (λ x. IfOk x (λ t. IfSome t (λ line. P (string_bytes line)))) (sym err) tt
 
 -- what is kept is kept with nothing after it
 kept_as_nothing : (before said : Option (List ℕ)) → Keeps before said → Appends before said []
@@ -145,15 +121,15 @@ said_not Fails between said (Err e) q fails put left =
     subst (λ x. IfErr x (λ f. (f ≡ unexplained.CannotWrite) ⊎ Fails f)) (sym left.0) (inr fails)
 
 -- an explanation, after the line of the ending
-module _ (known : Role → Option (List ℕ)) (ended : Ended) (request : Request)
-    (can_be : Causes) (before between said : Option (List ℕ)) where
+module _ (known : Role → Given) (ended : Ended) (request : Request)
+    (can_be : Causes) (can_pack : Packings) (before between said : Option (List ℕ)) where
   abbrev Explained : Result (Option (String Global)) Unexplained → Type 0
   Explained r = IfOk r (λ told. IfSome told (λ line.
       Explains known ended.ending (string_bytes line)))
 
   abbrev Caused : Result (Option (String Global)) Unexplained → Type 0
   Caused r = IfOk r (λ told. IfSome told (λ line.
-      TellsOwnCause can_be request ended.ending (string_bytes line)))
+      TellsOwn can_be can_pack request ended.ending (string_bytes line)))
 
   -- an explanation that is written without a fault is written whole
   pub said_whole : (r : Result (Option (String Global)) Unexplained)
@@ -161,7 +137,7 @@ module _ (known : Role → Option (List ℕ)) (ended : Ended) (request : Request
       → Explained r → Caused r → IfOk r (λ told. told ≡ None
       → HasNone can_be ended.ending ended.input request)
       → Put between said r q → Left between said r q
-      → OnOk q (SaysAll true known can_be ended request before said)
+      → OnOk q (SaysAll true known can_be can_pack ended request before said)
   said_whole (Ok (Some line)) (Ok u) first explained caused none put left =
       inl (
         string_bytes line,
@@ -186,22 +162,27 @@ module _ (known : Role → Option (List ℕ)) (ended : Ended) (request : Request
       → Explained r → Put between said r q → Left between said r q
       → SaysOf true known ended.ending before said
   said_front (Ok (Some line)) (Ok u) first explained put left =
-      both_said known ended.ending before between said first
-      (line_said known ended.ending (string_bytes line) between said explained
-      (whole_front between said (string_bytes line) put))
+      inr (
+        string_bytes line,
+        explained,
+        AppendsPrefix-second before between said (line_of ended.ending) (string_bytes line) first
+            (whole_front between said (string_bytes line) put),
+      )
   said_front (Ok (Some line)) (Err e) first explained put left =
-      both_said known ended.ending before between said first
-      (line_said known ended.ending (string_bytes line) between said explained put.1)
+      inr (
+        string_bytes line,
+        explained,
+        AppendsPrefix-second before between said (line_of ended.ending) (string_bytes line) first
+            put.1,
+      )
   said_front (Ok None) (Ok u) first explained put left =
-      both_said known ended.ending before between said first
-      (nothing_said known ended.ending between said put)
+      inl (nothing_said (line_of ended.ending) before between said first
+      (whole_front between said [] put))
   said_front (Ok None) (Err e) first explained put left =
-      let some = some_line ended.ending known in
-      both_said known ended.ending before between said first
-      (some.0, some.1, AppendsPrefix-first between said [] some.0 put.1)
+      inl (nothing_said (line_of ended.ending) before between said first put.1)
   said_front (Err e) q first explained put left =
-      both_said known ended.ending before between said first
-      (nothing_said known ended.ending between said (kept_as_nothing between said left.1))
+      inl (nothing_said (line_of ended.ending) before between said first
+      (whole_front between said [] (kept_as_nothing between said left.1)))
 
 -- ---- an ending with no text kept
 
@@ -209,7 +190,7 @@ pub ends_alone : (P : Ending → Type 0) (ending : Ending) (made : Ended)
     → made ≡ record { ending = ending; input = None } → P ending → P made.ending
 ends_alone P ending made is holds = subst (λ (x : Ended). P x.ending) (sym is) holds
 
-pub kept_alone : (known : Role → Option (List ℕ)) (ending : Ending) (made : Ended)
+pub kept_alone : (known : Role → Given) (ending : Ending) (made : Ended)
     → made ≡ record { ending = ending; input = None } → IsKept known made.input
 kept_alone known ending made is = subst (λ (x : Ended). IsKept known x.input) (sym is) tt
 

@@ -6,7 +6,11 @@ use Rattle.std.specs.Io.KnownBytes.{Appends}
 use Rattle.td_bytes.specs.Pieces.{AppendsPrefix}
 use Rattle.td_explain.specs.declared.spot.Place.{Place}
 use Rattle.td_explain.specs.declared.spot.Place.TheVariants.{Whole, Line, Stanza, Byte}
-use Rattle.td_explain.specs.Explanation.{explanation}
+use Rattle.td_explain.specs.Explanation.{ExplainsRelation, explanation, path_explanation}
+use Rattle.td_explain.specs.Packing.{packing_name, packing_of}
+use Rattle.td_explain.specs.declared.packing.Packing.{Packing}
+use Rattle.td_indices.specs.Fields.{relation_field_name}
+use Rattle.td_indices.specs.declared.archive_fault.RelationField.{RelationField}
 use Rattle.td_report.specs.Report.{all_shown}
 use Rattle.td_words.specs.Asked.{plan_words, run_words, track_words, waves_words}
 use Rattle.td_words.specs.CommandLine.{RunWords, TrackWords, WavesWords}
@@ -15,16 +19,17 @@ use Rattle.td_words.specs.declared.request.Request.{Request}
 use Rattle.td_words.specs.declared.request.Request.TheVariants as asked
 use Rattle.td_tool.specs.Ending.{line_of}
 use Rattle.td_tool.specs.Limits.{file_limit}
-use Rattle.td_tool.specs.Places.{place_of}
+use Rattle.td_tool.specs.Places.{place_of, relation_of}
 use Rattle.td_tool.specs.Tracks.{MayFail, OneFile}
 use Rattle.td_inputs.specs.Faults.{label_of}
-use Rattle.td_tool.specs.Wanted.{wanted_file, wanted_input}
+use Rattle.td_tool.specs.Wanted.{file_said, unpacked, wanted_file, wanted_input}
 use Rattle.td_inputs.specs.declared.role.Role.{Role}
 use Rattle.td_inputs.specs.declared.role.Role.TheVariants.{Input, Archs, Packages, Sources, State}
 use Rattle.td_inputs.specs.declared.role.Role.TheVariants.{Tracker, Outcomes, Journal}
 use Rattle.td_tool.specs.declared.cause.Cause.{Cause}
 use Rattle.td_tool.specs.declared.input_fault.InputFault.{InputFault}
-use Rattle.td_tool.specs.declared.input_fault.InputFault.TheVariants.{Simulation}
+use Rattle.td_tool.specs.declared.input_fault.InputFault.TheVariants.{TooLong, NotText, Simulation}
+use Rattle.td_tool.specs.declared.input_fault.InputFault.TheVariants.{BadOutcome, Form}
 use Rattle.td_tool.specs.declared.ending.Ended.{Ended}
 use Rattle.td_tool.specs.declared.ending.Ending.{Ending}
 use Rattle.td_tool.specs.declared.ending.Ending.TheVariants.{Done, Refused, BadInput, NoMemory}
@@ -93,20 +98,33 @@ run_paths w Tracker = w.tracker
 run_paths w Outcomes = w.outcomes
 run_paths w Journal = w.journal
 
--- the bytes of the files of these paths, if they are known
-abbrev pub known_at : (List ℕ → Option (List ℕ)) → (Role → Option (List ℕ)) → Role → Option (List ℕ)
-known_at bytes paths role = option_and_then bytes (paths role)
+-- what is known of the text of a role: the path of its file, if it has one, and its bytes, if they
+-- are known
+pub record Given : Type 0 where
+  pub path : Option (List ℕ)
+  pub text : Option (List ℕ)
 
--- what is on standard input, if it is known
-abbrev pub known_input : Option (List ℕ) → Role → Option (List ℕ)
-known_input known Input = known
-known_input known Archs = None
-known_input known Packages = None
-known_input known Sources = None
-known_input known State = None
-known_input known Tracker = None
-known_input known Outcomes = None
-known_input known Journal = None
+-- the files of these paths, and their bytes
+abbrev pub known_at : (List ℕ → Option (List ℕ)) → (Role → Option (List ℕ)) → Role → Given
+known_at bytes paths role = record {
+  path = paths role;
+  text = option_and_then bytes (paths role);
+}
+
+-- the bytes of standard input, which alone is read
+abbrev pub input_of : Option (List ℕ) → Role → Option (List ℕ)
+input_of known Input = known
+input_of known Archs = None
+input_of known Packages = None
+input_of known Sources = None
+input_of known State = None
+input_of known Tracker = None
+input_of known Outcomes = None
+input_of known Journal = None
+
+-- standard input, and no file
+abbrev pub known_input : Option (List ℕ) → Role → Given
+known_input known role = record { path = None; text = input_of known role }
 
 -- the paths that a request has
 abbrev pub paths_of : Request → Role → Option (List ℕ)
@@ -122,7 +140,7 @@ paths_of (asked.Run r) role = run_paths (run_words r) role
 -- the texts of a request, by role, if they are known: a simulation has only standard input, and no
 -- place of a script is explained
 abbrev pub known_of_request : Request → Option (List ℕ) → (List ℕ → Option (List ℕ)) → Role
-    → Option (List ℕ)
+    → Given
 known_of_request asked.Simulate known bytes = known_input known
 known_of_request (asked.Check files) known bytes =
     known_at bytes (archive_paths (string_bytes files.archs) (string_bytes files.packages)
@@ -144,34 +162,78 @@ IsLookedAt (Byte at) known text = IfSome known (λ all. all ≡ text)
 -- the line of a fault in the text of a role
 abbrev pub fault_line : Role → InputFault → List ℕ → List ℕ
 fault_line role fault text =
-    explanation (label_of role) (place_of fault) (wanted_input fault) text
+    explanation (label_of role) (place_of fault) (wanted_input fault text) text
 
--- the line of a file that isn't read: none if it isn't known why
-abbrev pub unread_line : Role → Option Cause → List ℕ
-unread_line role None = []
-unread_line role (Some cause) = explanation (label_of role) Whole (wanted_file cause) []
+-- a line is that of a fault in the text of a role; if a relation can't be read, it has that too
+abbrev pub IsLineWith : Option (ℕ × RelationField) → Role → InputFault → List ℕ → List ℕ → Type 0
+IsLineWith None role fault text line = line ≡ fault_line role fault text
+IsLineWith (Some p) role fault text line =
+    ExplainsRelation (label_of role) p.0 (relation_field_name p.1) (wanted_input fault text) text
+    line
 
--- a line explains the ending: that of a refused text by its fault, in the known text; that of a
--- file that isn't read by some cause, since no clause knows the disk; that of any other is empty
-abbrev pub Explains : (Role → Option (List ℕ)) → Ending → List ℕ → Type 0
+abbrev pub IsFaultLine : Role → InputFault → List ℕ → List ℕ → Type 0
+IsFaultLine role fault text line = IsLineWith (relation_of fault) role fault text line
+
+-- the line of the file of a path that is no text: it is packed, or else what is wanted is a text
+abbrev pub no_text_line : Role → Option (List ℕ) → Option Packing → List ℕ
+no_text_line role None packing = fault_line role NotText []
+no_text_line role (Some path) None = fault_line role NotText []
+no_text_line role (Some path) (Some packing) =
+    path_explanation (label_of role) path (packing_name packing) unpacked
+
+-- the line of the file of a path that isn't read: none if there is no path, as of standard input,
+-- or if it isn't known why
+abbrev pub unread_line : Role → Option (List ℕ) → Option Cause → List ℕ
+unread_line role None cause = []
+unread_line role (Some path) None = []
+unread_line role (Some path) (Some cause) =
+    path_explanation (label_of role) path (file_said cause) (wanted_file cause)
+
+-- known bytes are those of a file that is packed so
+abbrev pub ArePacked : Option (List ℕ) → Option Packing → Type 0
+ArePacked known None = Unit {0}
+ArePacked known (Some packing) = IfSome known (λ all. packing_of all ≡ Some packing)
+
+-- a line explains that a text isn't UTF-8, by how its file is packed, if it is
+abbrev pub ExplainsNoText : Given → Role → List ℕ → Type 0
+ExplainsNoText given role line =
+    (packing : Option Packing) × ArePacked given.text packing
+    × (line ≡ no_text_line role given.path packing)
+
+-- a line explains a fault by its place in the known text
+abbrev pub ExplainsPlace : Given → Role → InputFault → List ℕ → Type 0
+ExplainsPlace given role fault line =
+    (text : List ℕ) × IsLookedAt (place_of fault) given.text text
+    × IsFaultLine role fault text line
+
+-- a line explains the fault of a text
+abbrev pub ExplainsFault : Given → Role → InputFault → List ℕ → Type 0
+ExplainsFault given role TooLong line = ExplainsPlace given role TooLong line
+ExplainsFault given role NotText line = ExplainsNoText given role line
+ExplainsFault given role (Simulation e) line = ExplainsPlace given role (Simulation e) line
+ExplainsFault given role (BadOutcome n) line = ExplainsPlace given role (BadOutcome n) line
+ExplainsFault given role (Form e) line = ExplainsPlace given role (Form e) line
+
+-- a line explains the ending: that of a refused text by its fault; that of a file that isn't read
+-- by its path and some cause, since no clause knows the disk; that of any other is empty
+abbrev pub Explains : (Role → Given) → Ending → List ℕ → Type 0
 Explains known Done line = line ≡ []
 Explains known Refused line = line ≡ []
-Explains known (BadInput role fault) line =
-    (text : List ℕ) × IsLookedAt (place_of fault) (known role) text
-    × (line ≡ fault_line role fault text)
+Explains known (BadInput role fault) line = ExplainsFault (known role) role fault line
 Explains known NoMemory line = line ≡ []
 Explains known (CannotRead role) line =
-    (cause : Option Cause) × (line ≡ unread_line role cause)
+    (cause : Option Cause) × (line ≡ unread_line role (known role).path cause)
 Explains known CannotWrite line = line ≡ []
 
 -- a line explains a fault in one text, which is the known one
 abbrev pub ExplainsFile : Option (List ℕ) → Role → InputFault → List ℕ → Type 0
 ExplainsFile known role fault line =
-    (text : List ℕ) × IfSome known (λ all. all ≡ text) × (line ≡ fault_line role fault text)
+    (text : List ℕ) × IfSome known (λ all. all ≡ text) × IsFaultLine role fault text line
 
 -- the text that was kept of standard input is the known one
-abbrev pub IsKept : (Role → Option (List ℕ)) → Option (String Global) → Type 0
-IsKept known input = IfSome input (λ kept. IfSome (known Input) (λ all. all ≡ string_bytes kept))
+abbrev pub IsKept : (Role → Given) → Option (String Global) → Type 0
+IsKept known input =
+    IfSome input (λ kept. IfSome (known Input).text (λ all. all ≡ string_bytes kept))
 
 -- the text of a simulation is kept if it is refused as one
 abbrev pub IsTextKept : Ending → Option (String Global) → Type 0
@@ -179,13 +241,13 @@ IsTextKept (BadInput role (Simulation e)) input = IsSome input
 IsTextKept ending input = Unit {0}
 
 -- what is written of an ending: its line, and after it the explanation if that is asked for; only a
--- front of both if standard error, memory or another read fails
-abbrev pub SaysOf : Bool → (Role → Option (List ℕ)) → Ending → Option (List ℕ) → Option (List ℕ)
-    → Type 0
+-- front of both, or of the line, if standard error, memory or another read fails
+abbrev pub SaysOf : Bool → (Role → Given) → Ending → Option (List ℕ) → Option (List ℕ) → Type 0
 SaysOf false known ending said_before said = AppendsPrefix said_before said (line_of ending)
 SaysOf true known ending said_before said =
-    (line : List ℕ) × Explains known ending line
-    × AppendsPrefix said_before said (line_of ending ++ line)
+    AppendsPrefix said_before said (line_of ending)
+    ⊎ ((line : List ℕ) × Explains known ending line
+    × AppendsPrefix said_before said (line_of ending ++ line))
 
 -- ---- 3. whether all of it is written
 
@@ -215,23 +277,36 @@ HasNone can_be ending input request = Unit {0}
 abbrev pub TellsCause : Causes → List ℕ → Role → List ℕ → Type 0
 TellsCause can_be path role line =
     (cause : Cause) × (can_be path file_limit (Some cause) ≡ true)
-    × (line ≡ unread_line role (Some cause))
+    × (line ≡ unread_line role (Some path) (Some cause))
 
--- the line of a file that isn't read tells a cause that this file may have
-abbrev pub TellsOwnCause : Causes → Request → Ending → List ℕ → Type 0
-TellsOwnCause can_be request (CannotRead role) line =
+-- what may be known of how the file of a path is packed
+abbrev pub Packings : Type 0
+Packings = List ℕ → Option Packing → Bool
+
+-- a line tells how the file of a path, if there is one, may be packed
+abbrev pub TellsPacking : Packings → Option (List ℕ) → Role → List ℕ → Type 0
+TellsPacking can_pack path role line =
+    IfSome path (λ p. (packing : Option Packing) × (can_pack p packing ≡ true)
+    × (line ≡ no_text_line role (Some p) packing))
+
+-- the line of a file that isn't read tells a cause that this file may have, and that of one that
+-- is no text how this file may be packed
+abbrev pub TellsOwn : Causes → Packings → Request → Ending → List ℕ → Type 0
+TellsOwn can_be can_pack request (CannotRead role) line =
     IsSomeAnd (paths_of request role) (λ path. TellsCause can_be path role line)
-TellsOwnCause can_be request ending line = Unit {0}
+TellsOwn can_be can_pack request (BadInput role NotText) line =
+    TellsPacking can_pack (paths_of request role) role line
+TellsOwn can_be can_pack request ending line = Unit {0}
 
 -- all is written: the line of the ending, and after it, if that is asked for, the explanation, or
 -- nothing if there is none
-abbrev pub SaysAll : Bool → (Role → Option (List ℕ)) → Causes → Ended → Request → Option (List ℕ)
-    → Option (List ℕ) → Type 0
-SaysAll false known can_be ended request said_before said =
+abbrev pub SaysAll : Bool → (Role → Given) → Causes → Packings → Ended → Request
+    → Option (List ℕ) → Option (List ℕ) → Type 0
+SaysAll false known can_be can_pack ended request said_before said =
     Appends said_before said (line_of ended.ending)
-SaysAll true known can_be ended request said_before said =
+SaysAll true known can_be can_pack ended request said_before said =
     ((line : List ℕ) × Explains known ended.ending line
-    × TellsOwnCause can_be request ended.ending line
+    × TellsOwn can_be can_pack request ended.ending line
     × Appends said_before said (line_of ended.ending ++ line))
     ⊎ (HasNone can_be ended.ending ended.input request
     × Appends said_before said (line_of ended.ending))

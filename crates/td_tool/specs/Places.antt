@@ -1,5 +1,5 @@
 -- Where in its text a refusal is, by its own fields. This project's own.
-use Rattle.std.specs.Prelude.{ℕ, ◌+◌, nat_lt, if◌then◌else◌}
+use Rattle.std.specs.Prelude.{ℕ, ◌+◌, nat_lt, Option, Some, None, if◌then◌else◌}
 use Rattle.td_explain.specs.declared.spot.Place.{Place}
 use Rattle.td_explain.specs.declared.spot.Place.TheVariants.{Whole, Line, Stanza, Byte}
 use Rattle.td_stanza.specs.declared.fault.StanzaFault.{StanzaFault}
@@ -8,6 +8,7 @@ use Rattle.td_relation.specs.declared.archs.ArchsFault.{ArchsFault}
 use Rattle.td_relation.specs.declared.archs.ArchsFault.TheVariants as table
 use Rattle.td_indices.specs.declared.archive_fault.ArchiveFault.{ArchiveFault}
 use Rattle.td_indices.specs.declared.archive_fault.ArchiveFault.TheVariants as archive
+use Rattle.td_indices.specs.declared.archive_fault.RelationField.{RelationField}
 use Rattle.td_rows.specs.declared.state_file.StateFault.{StateFault}
 use Rattle.td_rows.specs.declared.state_file.StateFault.TheVariants as state
 use Rattle.td_query.specs.declared.tracker_fault.TrackerFault.{TrackerFault}
@@ -93,3 +94,29 @@ place_of refused.NotText = Whole
 place_of (refused.Simulation e) = place_in_simulation e
 place_of (refused.BadOutcome n) = Line n
 place_of (refused.Form e) = place_in_form e
+
+-- the stanza and the field with a relation that can't be read, if that is wrong with an index
+abbrev pub relation_in_index : ArchiveFault → Option (ℕ × RelationField)
+relation_in_index (archive.Stanza f e) = None
+relation_in_index (archive.MissingField f n field) = None
+relation_in_index (archive.BadVersion f n field) = None
+relation_in_index (archive.BadRelation f n field) = Some (n, field)
+relation_in_index archive.TooManyRows = None
+relation_in_index archive.NoMemory = None
+
+-- the stanza and the field, if that is what is wrong with a text that isn't of its form
+abbrev pub relation_in_form : FormFault → Option (ℕ × RelationField)
+relation_in_form (form.Table e) = None
+relation_in_form (form.Archive e) = relation_in_index e
+relation_in_form (form.State e) = None
+relation_in_form (form.NoSuchRow n) = None
+relation_in_form (form.Tracker e) = None
+relation_in_form (form.Journal e) = None
+
+-- the stanza and the field, if that is the fault
+abbrev pub relation_of : InputFault → Option (ℕ × RelationField)
+relation_of refused.TooLong = None
+relation_of refused.NotText = None
+relation_of (refused.Simulation e) = None
+relation_of (refused.BadOutcome n) = None
+relation_of (refused.Form e) = relation_in_form e

@@ -25,6 +25,12 @@ use Rattle.td_simulate.specs.declared.fault.SimulationFault.{SimulationFault}
 use Rattle.td_simulate.specs.declared.fault.SimulationFault.TheVariants as simulation
 use Rattle.td_inputs.specs.declared.form_fault.FormFault.{FormFault}
 use Rattle.td_inputs.specs.declared.form_fault.FormFault.TheVariants as form
+use Rattle.td_explain.specs.declared.flaw.ArchFlaw.{ArchFlaw}
+use Rattle.td_explain.specs.declared.flaw.ArchFlaw.TheVariants as flaw
+use Rattle.td_explain.specs.declared.stray.Stray.{Stray}
+use Rattle.td_explain.specs.declared.stray.Stray.TheVariants as stray
+use Rattle.td_explain.specs.ArchFlaw.{flaw_at}
+use Rattle.td_explain.specs.Stray.{stray_at}
 use Rattle.td_tool.specs.declared.cause.Cause.{Cause}
 use Rattle.td_tool.specs.declared.cause.Cause.TheVariants as cause
 use Rattle.td_tool.specs.declared.input_fault.InputFault.{InputFault}
@@ -45,12 +51,23 @@ wanted_simulation (simulation.Opening e) = wanted_state e
 wanted_simulation (simulation.BadStep n) = codes "a step, as docs/FORMATS.md lists them"
 wanted_simulation simulation.NoMemory = []
 
--- what is wanted of a table of architectures
-abbrev pub wanted_table : ArchsFault → List ℕ
-wanted_table (table.BadLine n) = codes "an architecture, as NAME OS CPU"
-wanted_table (table.Twice n) = codes "a name that no line above has"
-wanted_table table.TooMany = codes "at most 32 architectures"
-wanted_table table.NoMemory = []
+-- what is wanted of a line of a table of architectures, by what is wrong with it
+abbrev pub wanted_arch : ArchFlaw → List ℕ
+wanted_arch flaw.Words = codes "an architecture, as NAME OS CPU"
+wanted_arch flaw.Reserved = codes "a name other than all, any and source"
+wanted_arch flaw.Name =
+    codes "a name of small letters, digits and hyphens: no hyphen first, no any at either end"
+wanted_arch flaw.Os =
+    codes "an operating system of small letters and digits after one space, and not any"
+wanted_arch flaw.Cpu = codes "a processor of small letters and digits after one space, and not any"
+wanted_arch flaw.Nothing = codes "an architecture, as NAME OS CPU"
+
+-- what is wanted of a table of architectures, which is this text
+abbrev pub wanted_table : ArchsFault → List ℕ → List ℕ
+wanted_table (table.BadLine n) text = wanted_arch (flaw_at n text)
+wanted_table (table.Twice n) text = codes "a name that no line above has"
+wanted_table table.TooMany text = codes "at most 32 architectures"
+wanted_table table.NoMemory text = []
 
 -- what is wanted of the lines of a control file
 abbrev pub wanted_stanza : StanzaFault → List ℕ
@@ -99,14 +116,33 @@ wanted_key key.IsAffected = codes "a key is_affected"
 wanted_key key.IsGood = codes "a key is_good"
 wanted_key key.IsBad = codes "a key is_bad"
 
--- what is wanted of a tracker
-abbrev pub wanted_tracker : TrackerFault → List ℕ
-wanted_tracker (tracker.Syntax at) =
+-- what is wanted at the first byte that nothing can take, by what comes there: docs/GUIDE.md has
+-- the forms of ben's trackers that aren't read here
+abbrev pub wanted_syntax : Stray → List ℕ
+wanted_syntax stray.End =
+    codes "a ; after each value, also the last, and an end of each text, pattern and bracket"
+wanted_syntax stray.AfterSlash =
+    codes "nothing right after a pattern: its flag is (?i) at its front, a slash within it \\/"
+wanted_syntax stray.AfterQuote =
+    codes "other quotes within a text: the first \" ends it, also after a backslash"
+wanted_syntax stray.List =
+    codes "no list: a test for each name, with | between, or no key architectures"
+wanted_syntax stray.Apostrophe = codes "a text in \""
+wanted_syntax stray.Comparison =
+    codes "no comparison: a pattern on .version, or .depends ~ /liba1 \\(>= 3\\./"
+wanted_syntax stray.Joint = codes "one & or | between two queries"
+wanted_syntax stray.Source = codes ".directory ~ /./, a field that only Sources stanzas have"
+wanted_syntax stray.Word = codes "& for and, | for or, ! for not"
+wanted_syntax stray.Other =
     codes "a key and its query, as docs/FORMATS.md has trackers; at most 100 ( and ! are open"
-wanted_tracker (tracker.MissingKey k) = wanted_key k
-wanted_tracker (tracker.BadPattern at) =
+
+-- what is wanted of a tracker, which is this text
+abbrev pub wanted_tracker : TrackerFault → List ℕ → List ℕ
+wanted_tracker (tracker.Syntax at) text = wanted_syntax (stray_at at text)
+wanted_tracker (tracker.MissingKey k) text = wanted_key k
+wanted_tracker (tracker.BadPattern at) text =
     codes "a pattern that regex takes: no look-around, back reference or open bracket"
-wanted_tracker tracker.NoMemory = []
+wanted_tracker tracker.NoMemory text = []
 
 -- what is wanted of a journal
 abbrev pub wanted_journal : ReadError → List ℕ
@@ -117,21 +153,32 @@ wanted_journal (journal.Unlawful n) =
 wanted_journal journal.NoMemory = []
 
 -- what is wanted of a text that isn't of its form
-abbrev pub wanted_form : FormFault → List ℕ
-wanted_form (form.Table e) = wanted_table e
-wanted_form (form.Archive e) = wanted_archive e
-wanted_form (form.State e) = wanted_state e
-wanted_form (form.NoSuchRow n) = codes "a row that the indices give"
-wanted_form (form.Tracker e) = wanted_tracker e
-wanted_form (form.Journal e) = wanted_journal e
+abbrev pub wanted_form : FormFault → List ℕ → List ℕ
+wanted_form (form.Table e) text = wanted_table e text
+wanted_form (form.Archive e) text = wanted_archive e
+wanted_form (form.State e) text = wanted_state e
+wanted_form (form.NoSuchRow n) text = codes "a row that the indices give"
+wanted_form (form.Tracker e) text = wanted_tracker e text
+wanted_form (form.Journal e) text = wanted_journal e
 
 -- what is wanted of any text
-abbrev pub wanted_input : InputFault → List ℕ
-wanted_input TooLong = codes "standard input of at most 1048576 bytes"
-wanted_input NotText = codes "a text in UTF-8"
-wanted_input (Simulation e) = wanted_simulation e
-wanted_input (BadOutcome n) = codes "how a build ends, as KEY OUTCOME"
-wanted_input (Form e) = wanted_form e
+abbrev pub wanted_input : InputFault → List ℕ → List ℕ
+wanted_input TooLong text = codes "standard input of at most 1048576 bytes"
+wanted_input NotText text = codes "a text in UTF-8"
+wanted_input (Simulation e) text = wanted_simulation e
+wanted_input (BadOutcome n) text = codes "how a build ends, as KEY OUTCOME"
+wanted_input (Form e) text = wanted_form e text
+
+-- what is wanted of a file that is packed
+abbrev pub unpacked : List ℕ
+unpacked = codes "a text in UTF-8; unpack it first"
+
+-- what is said of a file that can't be read
+abbrev pub file_said : Cause → List ℕ
+file_said cause.NoSuchFile = codes "isn't there"
+file_said cause.NotPermitted = codes "may not be read"
+file_said cause.IsFolder = codes "is a folder"
+file_said cause.TooLong = codes "is too long"
 
 -- what is wanted of a file that can't be read
 abbrev pub wanted_file : Cause → List ℕ

@@ -6,24 +6,27 @@ ghost use Rattle.std.specs.Prelude.{option_copied, option_map, string_bytes, tru
 ghost use Rattle.std.specs.Io.KnownBytes.{Appends, Keeps};
 ghost use Rattle.td_bytes.specs.Pieces.{AppendsPrefix};
 ghost use Rattle.td_tool.specs.Ending.{status_of};
-ghost use Rattle.td_tool.specs.Explained.{Explains, ExplainsFile, FailsAgain, FailsFor, FailsOf};
-ghost use Rattle.td_tool.specs.Explained.{HasNoText, HasNone, IsKept, SaysAll, SaysOf};
-ghost use Rattle.td_tool.specs.Explained.{TellsCause, TellsOwnCause};
+ghost use Rattle.td_tool.specs.Explained.{Explains, ExplainsFault, ExplainsFile, ExplainsNoText};
+ghost use Rattle.td_tool.specs.Explained.{ExplainsPlace, FailsAgain, FailsFor, FailsOf};
+ghost use Rattle.td_tool.specs.Explained.{FailsThere, HasNoText, HasNone, IsFaultLine, IsKept};
+ghost use Rattle.td_tool.specs.Explained.{IsUnseen};
+ghost use Rattle.td_tool.specs.Explained.{SaysAll, SaysOf, TellsCause, TellsOwn, TellsPacking};
 ghost use Rattle.td_tool.specs.Explained.{archive_paths, fault_line, known_of_request, line_if};
-ghost use Rattle.td_tool.specs.Explained.{paths_of, unread_line};
+ghost use Rattle.td_tool.specs.Explained.{no_text_line, paths_of, unread_line};
 ghost use Rattle.td_tool.specs.Limits.{file_limit, input_limit};
+ghost use Rattle.td_tool.specs.Places.{place_of as place_of_of};
 ghost use Rattle.td_tool.specs.Tracks.{file_at};
 
 use crate::cause::Cause;
 use crate::ending::{Ended, Ending};
 use crate::file_texts::{FILE_LIMIT, read_one};
 use crate::input_fault::InputFault;
-use crate::places::place_of;
+use crate::places::{place_of, relation_of};
 use crate::texts::Texts;
-use crate::wanted::{wanted, wanted_of};
+use crate::wanted::{said_of, unpacked, wanted, wanted_of};
 use std::alloc::Global;
 use td_bytes::{TextFault, Writer, write_whole};
-use td_explain::{Place, explain};
+use td_explain::{Packing, Place, explain, explain_path, explain_relation};
 use td_inputs::Role;
 use td_words::{ArchivePaths, Request};
 
@@ -81,7 +84,7 @@ fn path_of(request: &Request, role: Role) -> Option<&String>
     }
 }
 
-// The line of a fault in the text.
+// The line of a fault in the text, with its place alone.
 fn explain_text(
     alloc: Global,
     role: Role,
@@ -93,7 +96,35 @@ fn explain_text(
         (λ line. string_bytes line ≡ fault_line role fault text.now)
         (λ e. e ≡ Unexplained.NoMemory) }
 {
-    match explain(alloc, role.label(), place_of(fault), wanted(fault), text) {
+    match explain(
+        alloc,
+        role.label(),
+        place_of(fault),
+        wanted(fault, text),
+        text,
+    ) {
+        Ok(line) => Ok(line),
+        Err(_) => Err(Unexplained::NoMemory),
+    }
+}
+
+// The line of a fault in the text, and of the relation that can't be read, if that is the fault.
+fn explain_in(
+    alloc: Global,
+    role: Role,
+    fault: InputFault,
+    text: &str,
+) -> Result<String, Unexplained>
+    requires { length text.now < 2 ^ 63 }
+    ensures { MatchResult result
+        (λ line. IsFaultLine role fault text.now (string_bytes line))
+        (λ e. e ≡ Unexplained.NoMemory) }
+{
+    let Some((number, field)) = relation_of(fault) else {
+        return explain_text(alloc, role, fault, text);
+    };
+    let wanted = wanted(fault, text);
+    match explain_relation(alloc, role.label(), number, field.name(), wanted, text) {
         Ok(line) => Ok(line),
         Err(_) => Err(Unexplained::NoMemory),
     }
@@ -113,7 +144,7 @@ fn explain_file<T: Texts>(
         (file_at (T.bytes texts.now) (T.can_fail texts.now) (string_bytes path.now))) }
 {
     match read_one(alloc, texts, role, path) {
-        Ok(text) => explain_text(alloc, role, fault, text.as_str()),
+        Ok(text) => explain_in(alloc, role, fault, text.as_str()),
         Err(unread) => Err(Unexplained::Unread(unread.fault)),
     }
 }
@@ -131,7 +162,7 @@ fn explain_place<T: Texts>(
     ensures line { (known : Option (List ℕ))
         → IsKept (known_of_request request.now known (T.bytes texts.now)) input.now
         → IfOk result (λ told. IfSome told (λ line. ExplainsFile
-        (known_of_request request.now known (T.bytes texts.now) role) role fault
+        (known_of_request request.now known (T.bytes texts.now) role).text role fault
         (string_bytes line))) }
     ensures none { IfOk result (λ told. told ≡ None → HasNoText role input.now request.now) }
     ensures failed { IfErr result (FailsFor
@@ -139,7 +170,7 @@ fn explain_place<T: Texts>(
 {
     match role {
         Role::Input => match input {
-            Some(text) => some_line(explain_text(alloc, role, fault, text.as_str())),
+            Some(text) => some_line(explain_in(alloc, role, fault, text.as_str())),
             None => Ok(None),
         },
         _ => match path_of(request, role) {
@@ -160,21 +191,121 @@ fn some_line(line: Result<String, Unexplained>) -> Result<Option<String>, Unexpl
     }
 }
 
+// The line of a fault by its place; nothing if it has one and no text of its role is at hand.
+fn explain_seen<T: Texts>(
+    alloc: Global,
+    role: Role,
+    fault: InputFault,
+    input: &Option<String>,
+    request: &Request,
+    texts: &T,
+) -> Result<Option<String>, Unexplained>
+    requires { IfSome input.now (λ text. length (string_bytes text) ≤ input_limit) }
+    ensures line { (known : Option (List ℕ))
+        → IsKept (known_of_request request.now known (T.bytes texts.now)) input.now
+        → IfOk result (λ told. IfSome told (λ line. ExplainsPlace
+        (known_of_request request.now known (T.bytes texts.now) role) role fault
+        (string_bytes line))) }
+    ensures none { IfOk result (λ told. told ≡ None
+        → IsUnseen (place_of_of fault) role input.now request.now) }
+    ensures failed { IfErr result (FailsThere
+        (file_at (T.bytes texts.now) (T.can_fail texts.now)) (place_of_of fault)
+        (paths_of request.now role)) }
+{
+    match place_of(fault) {
+        Place::Whole => some_line(explain_in(alloc, role, fault, "")),
+        _ => explain_place(alloc, role, fault, input, request, texts),
+    }
+}
+
+// The line of a file that is no text, and is packed so, or isn't known to be.
+fn explain_packed(
+    alloc: Global,
+    role: Role,
+    path: &str,
+    packing: Option<Packing>,
+) -> Result<String, Unexplained>
+    ensures { MatchResult result
+        (λ line. string_bytes line ≡ no_text_line role (Some path.now) packing)
+        (λ e. e ≡ Unexplained.NoMemory) }
+{
+    let Some(packing) = packing else {
+        return explain_text(alloc, role, InputFault::NotText, "");
+    };
+    match explain_path(alloc, role.label(), path, packing.said(), unpacked()) {
+        Ok(line) => Ok(line),
+        Err(_) => Err(Unexplained::NoMemory),
+    }
+}
+
+// The line of a text that isn't UTF-8.
+fn explain_no_text<T: Texts>(
+    alloc: Global,
+    role: Role,
+    request: &Request,
+    texts: &T,
+) -> Result<String, Unexplained>
+    ensures line { (known : Option (List ℕ)) → IfOk result (λ line. ExplainsNoText
+        (known_of_request request.now known (T.bytes texts.now) role) role (string_bytes line)) }
+    ensures own { IfOk result (λ line. TellsPacking
+        (T.can_pack texts.now) (paths_of request.now role) role (string_bytes line)) }
+    ensures failed { IfErr result (λ e. e ≡ Unexplained.NoMemory) }
+{
+    match path_of(request, role) {
+        Some(path) => explain_packed(alloc, role, path.as_str(), texts.packing(path.as_str())),
+        None => explain_text(alloc, role, InputFault::NotText, ""),
+    }
+}
+
+// The line of a fault; nothing if it has a place and no text of its role is at hand.
+fn explain_fault<T: Texts>(
+    alloc: Global,
+    role: Role,
+    fault: InputFault,
+    input: &Option<String>,
+    request: &Request,
+    texts: &T,
+) -> Result<Option<String>, Unexplained>
+    requires { IfSome input.now (λ text. length (string_bytes text) ≤ input_limit) }
+    ensures line { (known : Option (List ℕ))
+        → IsKept (known_of_request request.now known (T.bytes texts.now)) input.now
+        → IfOk result (λ told. IfSome told (λ line. ExplainsFault
+        (known_of_request request.now known (T.bytes texts.now) role) role fault
+        (string_bytes line))) }
+    ensures own { IfOk result (λ told. IfSome told (λ line. TellsOwn
+        (T.can_be texts.now) (T.can_pack texts.now) request.now (Ending.BadInput role fault)
+        (string_bytes line))) }
+    ensures none { IfOk result (λ told. told ≡ None
+        → IsUnseen (place_of_of fault) role input.now request.now) }
+    ensures failed { IfErr result (FailsThere
+        (file_at (T.bytes texts.now) (T.can_fail texts.now)) (place_of_of fault)
+        (paths_of request.now role)) }
+{
+    match fault {
+        InputFault::NotText => some_line(explain_no_text(alloc, role, request, texts)),
+        InputFault::TooLong
+        | InputFault::Simulation(_)
+        | InputFault::BadOutcome(_)
+        | InputFault::Form(_) => explain_seen(alloc, role, fault, input, request, texts),
+    }
+}
+
 // The line of a file that can't be read for this cause, if that is known.
 fn explain_cause(
     alloc: Global,
     role: Role,
+    path: &str,
     cause: Option<Cause>,
 ) -> Result<Option<String>, Unexplained>
     ensures line { IfOk result (λ told. IfSome told (λ line.
-        IsSomeAnd cause (λ c. string_bytes line ≡ unread_line role (Some c)))) }
+        IsSomeAnd cause (λ c. string_bytes line ≡ unread_line role (Some path.now) (Some c)))) }
     ensures none { IfOk result (λ told. told ≡ None → cause ≡ None) }
     ensures failed { IfErr result (λ e. e ≡ Unexplained.NoMemory) }
 {
     let Some(cause) = cause else {
         return Ok(None);
     };
-    match explain(alloc, role.label(), Place::Whole, wanted_of(cause), "") {
+    match explain_path(alloc, role.label(), path, said_of(cause), wanted_of(cause)) {
         Ok(line) => Ok(Some(line)),
         Err(_) => Err(Unexplained::NoMemory),
     }
@@ -196,7 +327,10 @@ fn explain_unread<T: Texts>(
     ensures failed { IfErr result (λ e. e ≡ Unexplained.NoMemory) }
 {
     match path_of(request, role) {
-        Some(path) => explain_cause(alloc, role, texts.cause(path.as_str(), FILE_LIMIT)),
+        Some(path) => {
+            let cause = texts.cause(path.as_str(), FILE_LIMIT);
+            explain_cause(alloc, role, path.as_str(), cause)
+        }
         None => Ok(None),
     }
 }
@@ -214,18 +348,18 @@ fn explanation<T: Texts>(
         → IfOk result (λ told. IfSome told (λ line. Explains
         (known_of_request request.now known (T.bytes texts.now)) ended.now.ending
         (string_bytes line))) }
-    ensures cause { IfOk result (λ told. IfSome told (λ line.
-        TellsOwnCause (T.can_be texts.now) request.now ended.now.ending (string_bytes line))) }
+    ensures own { IfOk result (λ told. IfSome told (λ line. TellsOwn
+        (T.can_be texts.now) (T.can_pack texts.now) request.now ended.now.ending
+        (string_bytes line))) }
     ensures none { IfOk result (λ told. told ≡ None
         → HasNone (T.can_be texts.now) ended.now.ending ended.now.input request.now) }
     ensures failed { IfErr result (FailsOf
         (file_at (T.bytes texts.now) (T.can_fail texts.now)) request.now ended.now.ending) }
 {
     match ended.ending {
-        Ending::BadInput(role, fault) => match place_of(fault) {
-            Place::Whole => some_line(explain_text(alloc, role, fault, "")),
-            _ => explain_place(alloc, role, fault, &ended.input, request, texts),
-        },
+        Ending::BadInput(role, fault) => {
+            explain_fault(alloc, role, fault, &ended.input, request, texts)
+        }
         Ending::CannotRead(role) => explain_unread(alloc, role, request, texts),
         Ending::Done | Ending::Refused | Ending::NoMemory | Ending::CannotWrite => Ok(None),
     }
@@ -268,7 +402,7 @@ fn say<T: Texts, E: Writer>(
     ensures whole { (known : Option (List ℕ))
         → IsKept (known_of_request request.now known (T.bytes texts.now)) ended.now.input
         → OnOk result (SaysAll explained (known_of_request request.now known (T.bytes texts.now))
-        (T.can_be texts.now) ended.now request.now
+        (T.can_be texts.now) (T.can_pack texts.now) ended.now request.now
         (E.contents faults.old) (E.contents faults.new)) }
     ensures failed { IfErr result (λ e. (e ≡ Unexplained.CannotWrite)
         ⊎ FailsOf (file_at (T.bytes texts.now) (T.can_fail texts.now)) request.now

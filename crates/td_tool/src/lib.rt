@@ -36,4 +36,5 @@ mod wanted;
 pub use answering::{BAD_WORDS, answer_alone, crew_of, tool};
 pub use cause::Cause;
 pub use simulation::simulate;
+pub use td_explain::{Packing, packing_of};
 pub use texts::Texts;

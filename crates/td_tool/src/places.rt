@@ -10,10 +10,13 @@ ghost use Rattle.td_tool.specs.Places.{place_in_table as place_in_table_of};
 ghost use Rattle.td_tool.specs.Places.{place_in_tracker as place_in_tracker_of};
 ghost use Rattle.td_tool.specs.Places.{place_of_entry as place_of_entry_of};
 ghost use Rattle.td_tool.specs.Places.{place_of as place_of_of};
+ghost use Rattle.td_tool.specs.Places.{relation_in_form as relation_in_form_of};
+ghost use Rattle.td_tool.specs.Places.{relation_in_index as relation_in_index_of};
+ghost use Rattle.td_tool.specs.Places.{relation_of as relation_of_of};
 
 use crate::input_fault::InputFault;
 use td_explain::Place;
-use td_indices::ArchiveFault;
+use td_indices::{ArchiveFault, RelationField};
 use td_inputs::FormFault;
 use td_journal::ReadError;
 use td_query::TrackerFault;
@@ -127,5 +130,46 @@ pub fn place_of(fault: InputFault) -> Place
         InputFault::Simulation(fault) => place_in_simulation(fault),
         InputFault::BadOutcome(n) => Place::Line(n),
         InputFault::Form(fault) => place_in_form(fault),
+    }
+}
+
+// The stanza and the field, if a relation of an index can't be read.
+fn relation_in_index(fault: ArchiveFault) -> Option<(usize, RelationField)>
+    ensures { result ≡ relation_in_index_of fault }
+{
+    match fault {
+        ArchiveFault::BadRelation(_, number, field) => Some((number, field)),
+        ArchiveFault::Stanza(_, _)
+        | ArchiveFault::MissingField(_, _, _)
+        | ArchiveFault::BadVersion(_, _, _)
+        | ArchiveFault::TooManyRows
+        | ArchiveFault::NoMemory => None,
+    }
+}
+
+// The stanza and the field, if a relation of a text that isn't of its form can't be read.
+fn relation_in_form(fault: FormFault) -> Option<(usize, RelationField)>
+    ensures { result ≡ relation_in_form_of fault }
+{
+    match fault {
+        FormFault::Archive(fault) => relation_in_index(fault),
+        FormFault::Table(_)
+        | FormFault::State(_)
+        | FormFault::NoSuchRow(_)
+        | FormFault::Tracker(_)
+        | FormFault::Journal(_) => None,
+    }
+}
+
+/// The stanza and the field with a relation that can't be read, if that is the fault.
+pub fn relation_of(fault: InputFault) -> Option<(usize, RelationField)>
+    ensures { result ≡ relation_of_of fault }
+{
+    match fault {
+        InputFault::Form(fault) => relation_in_form(fault),
+        InputFault::TooLong
+        | InputFault::NotText
+        | InputFault::Simulation(_)
+        | InputFault::BadOutcome(_) => None,
     }
 }

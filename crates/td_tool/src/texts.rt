@@ -3,6 +3,7 @@ use crate::cause::Cause;
 use std::alloc::Global;
 use std::thread::Threads;
 use td_bytes::TextFault;
+use td_explain::Packing;
 
 /// Files that are texts, by their paths. The program reads those of the disk.
 pub trait Texts {
@@ -17,6 +18,7 @@ pub trait Texts {
       List,
       length,
       Option,
+      Some,
       IfOk,
       IfErr,
       IfSome,
@@ -26,6 +28,8 @@ pub trait Texts {
     ghost use Rattle.std.specs.String.{string_bytes};
     ghost use Rattle.td_bytes.specs.declared.text.TextFault.{TextFault};
     ghost use Rattle.td_bytes.specs.declared.text.TextFault.TheVariants.{NotText, TooLong};
+    ghost use Rattle.td_explain.specs.Packing.{packing_of};
+    ghost use Rattle.td_explain.specs.declared.packing.Packing.{Packing};
     ghost use Rattle.td_tool.specs.declared.cause.Cause.{Cause};
 
     // The bytes of the file with this path, if clauses know them.
@@ -37,6 +41,9 @@ pub trait Texts {
     // What may be known of why the file with this path can't be read, as a text of at most this
     // number of bytes.
     ghost can_be: { Self → List ℕ → ℕ → Option Cause → Bool };
+
+    // What may be known of how the file with this path is packed.
+    ghost can_pack: { Self → List ℕ → Option Packing → Bool };
 
     /// Reads a whole file, a text of at most `limit` bytes.
     fn text(&self, alloc: Global, path: &str, limit: usize) -> Result<String, TextFault>
@@ -68,4 +75,10 @@ pub trait Texts {
     /// that isn't known.
     fn cause(&self, path: &str, limit: usize) -> Option<Cause>
         ensures { can_be self.now path.now limit result ≡ true };
+
+    /// How the file with this path is packed; `None` if it isn't, or that isn't known.
+    fn packing(&self, path: &str) -> Option<Packing>
+        ensures packed { IfSome result (λ packing. IfSome (bytes self.now path.now)
+            (λ all. packing_of all ≡ Some packing)) }
+        ensures may { can_pack self.now path.now result ≡ true };
 }

@@ -1,12 +1,15 @@
 //! What is wanted instead of what is refused.
-ghost use Rattle.std.specs.Prelude.{◌≡◌};
-ghost use Rattle.td_tool.specs.Wanted.{wanted_archive, wanted_field, wanted_file, wanted_form};
-ghost use Rattle.td_tool.specs.Wanted.{wanted_input, wanted_journal, wanted_key, wanted_relation};
+ghost use Rattle.std.specs.Prelude.{◌≡◌, ◌<◌, ◌^◌, length};
+ghost use Rattle.td_tool.specs.Wanted.{file_said, unpacked, wanted_arch, wanted_archive};
+ghost use Rattle.td_tool.specs.Wanted.{wanted_field, wanted_file, wanted_form, wanted_input};
+ghost use Rattle.td_tool.specs.Wanted.{wanted_journal, wanted_key, wanted_relation};
 ghost use Rattle.td_tool.specs.Wanted.{wanted_simulation, wanted_stanza, wanted_state};
-ghost use Rattle.td_tool.specs.Wanted.{wanted_table, wanted_tracker, wanted_version};
+ghost use Rattle.td_tool.specs.Wanted.{wanted_syntax, wanted_table, wanted_tracker};
+ghost use Rattle.td_tool.specs.Wanted.{wanted_version};
 
 use crate::cause::Cause;
 use crate::input_fault::InputFault;
+use td_explain::{ArchFlaw, Stray, arch_flaw, stray_at};
 use td_indices::{ArchiveFault, IndexField, RelationField, VersionField};
 use td_inputs::FormFault;
 use td_journal::ReadError;
@@ -40,12 +43,28 @@ fn wanted_simulation(fault: SimulationFault) -> &'static str
     }
 }
 
+// What is wanted of a line of a table of architectures.
+fn wanted_arch(flaw: ArchFlaw) -> &'static str
+    ensures { result.now ≡ wanted_arch flaw }
+{
+    match flaw {
+        ArchFlaw::Words | ArchFlaw::Nothing => "an architecture, as NAME OS CPU",
+        ArchFlaw::Reserved => "a name other than all, any and source",
+        ArchFlaw::Name =>
+            "a name of small letters, digits and hyphens: no hyphen first, no any at either end",
+        ArchFlaw::Os =>
+            "an operating system of small letters and digits after one space, and not any",
+        ArchFlaw::Cpu => "a processor of small letters and digits after one space, and not any",
+    }
+}
+
 // What is wanted of a table of architectures.
-fn wanted_table(fault: ArchsFault) -> &'static str
-    ensures { result.now ≡ wanted_table fault }
+fn wanted_table(fault: ArchsFault, text: &str) -> &'static str
+    requires { length text.now < 2 ^ 63 }
+    ensures { result.now ≡ wanted_table fault text.now }
 {
     match fault {
-        ArchsFault::BadLine(_) => "an architecture, as NAME OS CPU",
+        ArchsFault::BadLine(number) => wanted_arch(arch_flaw(text, number)),
         ArchsFault::Twice(_) => "a name that no line above has",
         ArchsFault::TooMany => "at most 32 architectures",
         ArchsFault::NoMemory => "",
@@ -126,13 +145,35 @@ fn wanted_key(fault: TrackerKey) -> &'static str
     }
 }
 
+// What is wanted at the first byte that nothing of a tracker can take.
+fn wanted_syntax(stray: Stray) -> &'static str
+    ensures { result.now ≡ wanted_syntax stray }
+{
+    match stray {
+        Stray::End =>
+            "a ; after each value, also the last, and an end of each text, pattern and bracket",
+        Stray::AfterSlash =>
+            "nothing right after a pattern: its flag is (?i) at its front, a slash within it \\/",
+        Stray::AfterQuote =>
+            "other quotes within a text: the first \" ends it, also after a backslash",
+        Stray::List => "no list: a test for each name, with | between, or no key architectures",
+        Stray::Apostrophe => "a text in \"",
+        Stray::Comparison =>
+            "no comparison: a pattern on .version, or .depends ~ /liba1 \\(>= 3\\./",
+        Stray::Joint => "one & or | between two queries",
+        Stray::Source => ".directory ~ /./, a field that only Sources stanzas have",
+        Stray::Word => "& for and, | for or, ! for not",
+        Stray::Other =>
+            "a key and its query, as docs/FORMATS.md has trackers; at most 100 ( and ! are open",
+    }
+}
+
 // What is wanted of a tracker.
-fn wanted_tracker(fault: TrackerFault) -> &'static str
-    ensures { result.now ≡ wanted_tracker fault }
+fn wanted_tracker(fault: TrackerFault, text: &str) -> &'static str
+    ensures { result.now ≡ wanted_tracker fault text.now }
 {
     match fault {
-        TrackerFault::Syntax(_) =>
-            "a key and its query, as docs/FORMATS.md has trackers; at most 100 ( and ! are open",
+        TrackerFault::Syntax(at) => wanted_syntax(stray_at(text, at)),
         TrackerFault::MissingKey(key) => wanted_key(key),
         TrackerFault::BadPattern(_) =>
             "a pattern that regex takes: no look-around, back reference or open bracket",
@@ -153,29 +194,50 @@ fn wanted_journal(fault: ReadError) -> &'static str
 }
 
 // What is wanted of a text that isn't of its form.
-fn wanted_form(fault: FormFault) -> &'static str
-    ensures { result.now ≡ wanted_form fault }
+fn wanted_form(fault: FormFault, text: &str) -> &'static str
+    requires { length text.now < 2 ^ 63 }
+    ensures { result.now ≡ wanted_form fault text.now }
 {
     match fault {
-        FormFault::Table(fault) => wanted_table(fault),
+        FormFault::Table(fault) => wanted_table(fault, text),
         FormFault::Archive(fault) => wanted_archive(fault),
         FormFault::State(fault) => wanted_state(fault),
         FormFault::NoSuchRow(_) => "a row that the indices give",
-        FormFault::Tracker(fault) => wanted_tracker(fault),
+        FormFault::Tracker(fault) => wanted_tracker(fault, text),
         FormFault::Journal(fault) => wanted_journal(fault),
     }
 }
 
-/// What is wanted instead of what a text is refused for.
-pub fn wanted(fault: InputFault) -> &'static str
-    ensures { result.now ≡ wanted_input fault }
+/// What is wanted instead of what this text is refused for.
+pub fn wanted(fault: InputFault, text: &str) -> &'static str
+    requires { length text.now < 2 ^ 63 }
+    ensures { result.now ≡ wanted_input fault text.now }
 {
     match fault {
         InputFault::TooLong => "standard input of at most 1048576 bytes",
         InputFault::NotText => "a text in UTF-8",
         InputFault::Simulation(fault) => wanted_simulation(fault),
         InputFault::BadOutcome(_) => "how a build ends, as KEY OUTCOME",
-        InputFault::Form(fault) => wanted_form(fault),
+        InputFault::Form(fault) => wanted_form(fault, text),
+    }
+}
+
+/// What is wanted of a file that is packed.
+pub fn unpacked() -> &'static str
+    ensures { result.now ≡ unpacked }
+{
+    "a text in UTF-8; unpack it first"
+}
+
+/// What is said of a file that can't be read.
+pub fn said_of(cause: Cause) -> &'static str
+    ensures { result.now ≡ file_said cause }
+{
+    match cause {
+        Cause::NoSuchFile => "isn't there",
+        Cause::NotPermitted => "may not be read",
+        Cause::IsFolder => "is a folder",
+        Cause::TooLong => "is too long",
     }
 }
 

@@ -2,10 +2,10 @@
 use std::alloc::Global;
 use std::fs;
 use std::fs::File;
-use std::io::ErrorKind;
+use std::io::{ErrorKind, Read};
 use std::thread::Threads;
 use td_bytes::{TextFault, halves_of, read_text};
-use td_tool::{Cause, Texts};
+use td_tool::{Cause, Packing, Texts, packing_of};
 
 // What an error of this kind says of why a file can't be read.
 fn cause_of(kind: ErrorKind) -> Option<Cause> {
@@ -39,6 +39,8 @@ impl Texts for Disk<'_> {
     ghost can_fail = { λ _ _ _. true };
 
     ghost can_be = { λ _ _ _ _. true };
+
+    ghost can_pack = { λ _ _ _. true };
 
     fn text(&self, alloc: Global, path: &str, limit: usize) -> Result<String, TextFault> {
         match File::open(self.0, path) {
@@ -82,5 +84,16 @@ impl Texts for Disk<'_> {
             },
             Ok(_) => None,
         }
+    }
+
+    // (a pipe isn't opened here either)
+    fn packing(&self, path: &str) -> Option<Packing> {
+        if !fs::metadata(self.0, path).ok()?.is_file() {
+            return None;
+        }
+        let mut file = File::open(self.0, path).ok()?;
+        let mut front = [0; 6];
+        let count = file.read(&mut front).ok()?;
+        packing_of(front.get(..count)?)
     }
 }

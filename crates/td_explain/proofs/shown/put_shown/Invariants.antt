@@ -8,4 +8,4 @@ use Rattle.td_explain.proofs.shown.put_shown.Given as goal
 abbrev pub invariant-loop-c : goal.invariant-loop-c
 invariant-loop-c l = IsUtf8 (chars_rest l.rest)
     × (string_bytes l.out ++ shown_from l.left (chars (chars_rest l.rest))
-    ≡ string_bytes l.fn.out ++ shown (chars l.fn.text))
+    ≡ string_bytes l.fn.out ++ shown l.fn.most (chars l.fn.text))

@@ -6,8 +6,9 @@ use Rattle.td_tool.proofs.explaining.explanation.Goals as goal
 
 pub returns-in-CannotRead-clause-line : goal.returns-in-CannotRead-clause-line
 returns-in-CannotRead-clause-line g c = λ known kept.
-    let texts = known_of_request c.args.request.now known (g.T.Texts.bytes c.args.texts.now) in
+    let bytes = g.T.Texts.bytes c.args.texts.now in
+    let texts = known_of_request c.args.request.now known bytes in
     subst (λ ending. IfOk c.explain_unread.result (λ told. IfSome told (λ line.
     Explains texts ending (string_bytes line)))) (sym c.in-CannotRead.is)
-    (own_cause_explains (g.T.Texts.can_be c.args.texts.now) texts c.args.request.now
+    (own_cause_explains (g.T.Texts.can_be c.args.texts.now) c.args.request.now known bytes
     c.in-CannotRead.role c.explain_unread.result c.explain_unread.ensures.line)

@@ -18,12 +18,12 @@ returns-clause-whole g c = λ known kept.
     let before = g.E.Write.contents c.args.faults.now in
     let said = g.E.Write.contents c.put_explanation.new.faults in
     subst (λ b. OnOk c.put_explanation.result
-    (SaysAll b texts (g.T.Texts.can_be c.args.texts.now) c.args.ended.now c.args.request.now before
-    said)) (sym asked)
+    (SaysAll b texts (g.T.Texts.can_be c.args.texts.now) (g.T.Texts.can_pack c.args.texts.now)
+    c.args.ended.now c.args.request.now before said)) (sym asked)
     (said_whole texts c.args.ended.now c.args.request.now (g.T.Texts.can_be c.args.texts.now)
-    before _ said c.explanation.result
+    (g.T.Texts.can_pack c.args.texts.now) before _ said c.explanation.result
     c.put_explanation.result c.in-Ok.ensures.whole (c.explanation.ensures.line known kept)
-    c.explanation.ensures.cause c.explanation.ensures.none c.put_explanation.ensures.line
+    c.explanation.ensures.own c.explanation.ensures.none c.put_explanation.ensures.line
     c.put_explanation.ensures.none)
 
 pub returns-clause-front : goal.returns-clause-front
@@ -34,7 +34,7 @@ returns-clause-front g c = λ known kept.
     let said = g.E.Write.contents c.put_explanation.new.faults in
     subst (λ b. SaysOf b texts c.args.ended.now.ending before said) (sym asked)
     (said_front texts c.args.ended.now c.args.request.now (g.T.Texts.can_be c.args.texts.now)
-    before _ said c.explanation.result
+    (g.T.Texts.can_pack c.args.texts.now) before _ said c.explanation.result
     c.put_explanation.result c.in-Ok.ensures.whole (c.explanation.ensures.line known kept)
     c.put_explanation.ensures.line c.put_explanation.ensures.none)
 
