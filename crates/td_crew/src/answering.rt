@@ -110,6 +110,7 @@ fn sweep<N: Named, C: Ledger, R: Wait>(
     alloc: Global,
     out: &mut Words<'_, N>,
 ) -> Result<bool, AllocError>
+    requires { said_at out.old.turn.line.now ≡ Asked requests.Sweep }
     ensures turn { out.new.turn ≡ out.old.turn }
     ensures parts { clerk.new.parts ≡ clerk.old.parts }
     ensures says { IfOk result (Says (MaySweep

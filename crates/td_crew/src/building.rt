@@ -4,23 +4,24 @@ ghost use Rattle.td_builder.specs.Floors.{IsIdle};
 
 use crate::ends::Stopped;
 use crate::shift::Shift;
+use crate::worker::Worker;
 use std::sync::Wait;
 use std::sync::ledger::Ledger;
-use td_builder::{Builds, work};
-use td_desk::{Hired, Home, Named};
+use td_builder::Builds;
+use td_desk::{Home, Named};
 
 // One builder, until it may go home, without a row, or stops.
 fn build<N: Named, C: Ledger, B: Builds, R: Wait>(
     rt: &R,
     shift: &Shift<'_, '_, N, C>,
-    hired: &mut Hired<N>,
+    worker: &mut Worker<N>,
     builds: &mut B,
 ) -> Result<Home<N>, Stopped<N>>
-    ensures { OnOk result (IsIdle hired.new.seat) }
+    ensures { OnOk result (IsIdle worker.new.hired.seat) }
 {
     for _ in rt.forever() {
         // (work ends at the last number, too, and goes on from there)
-        if let (_, Some(home)) = work(rt, shift, &mut hired.seat, builds)? {
+        if let (_, Some(home)) = worker.work(rt, shift, builds)? {
             return Ok(home);
         }
     }
@@ -32,10 +33,10 @@ fn build<N: Named, C: Ledger, B: Builds, R: Wait>(
 pub fn serve<N: Named, C: Ledger, B: Builds + Copy, R: Wait>(
     rt: &R,
     shift: &Shift<'_, '_, N, C>,
-    hired: Hired<N>,
+    worker: Worker<N>,
     builds: B,
 ) {
-    let (mut hired, mut builds) = (hired, builds);
-    let end = build(rt, shift, &mut hired, &mut builds);
-    shift.count(rt, end, hired);
+    let (mut worker, mut builds) = (worker, builds);
+    let end = build(rt, shift, &mut worker, &mut builds);
+    shift.count(rt, end, worker);
 }

@@ -1,9 +1,10 @@
 //! A crew: a clerk with builders.
-ghost use Rattle.std.specs.Prelude.{◌≡◌, ◌+◌, ◌-◌, ◌≤◌, ◌<◌, ◌^◌, ◌∷◌, [], All, Err, IfErr, IfOk};
+ghost use Rattle.std.specs.Prelude.{◌≡◌, ◌+◌, ◌-◌, ◌≤◌, ◌<◌, ◌^◌, ◌∷◌, [], Err, IfErr, IfOk};
 ghost use Rattle.std.specs.Prelude.{OnOk, length, option_map, string_bytes, true};
 ghost use Rattle.td_desk.specs.Clerks.{all_parts, all_receipts};
 ghost use Rattle.td_board.specs.Knowledge.{new_desk};
 ghost use Rattle.td_board.specs.Limits.{max_builders};
+ghost use Rattle.td_board.specs.Seats.{new_seats};
 ghost use Rattle.td_relation.specs.TableView.{table};
 ghost use Rattle.td_core.specs.Phases.{NoneBuilt};
 ghost use Rattle.td_supply.specs.Supply.{opened, stock_of};
@@ -22,6 +23,7 @@ use crate::lines::Lines;
 use crate::shift::Shift;
 use crate::telling::{Telling, told_of};
 use crate::told::tell_lines;
+use crate::worker::{Worker, hire_workers};
 use std::alloc::{AllocError, Global};
 use std::marker::Brand;
 use std::sync::Wait;
@@ -31,7 +33,7 @@ use std::thread::Threads;
 use td_board::{Board, BuilderSeat, DeskSeat};
 use td_book::Book;
 use td_builder::Builds;
-use td_desk::{Clerk, Desk, Hired, Homes, Named, PARTS, Shut, hire};
+use td_desk::{Clerk, Desk, Homes, Named, PARTS, Shut};
 use td_journal::ReadError;
 use td_report::Transition;
 use td_rows::Rows;
@@ -53,16 +55,17 @@ impl Staff for Crew {
 
 // The answers to the lines, and the clerk with its receipts for them; and that the desk is shut
 // then, also if memory ran out.
-fn tell_all<N: Named, C: Ledger, T: Reports, R: Wait>(
+fn tell_all<'s, N: Named, C: Ledger, T: Reports, R: Wait>(
     rt: &R,
     desk: &Desk<'_, N, C>,
     clerk: Clerk<C>,
-    lines: &Lines<'_, '_, T>,
-) -> Result<(Telling<N>, Clerk<C>, Shut<N>), Shut<N>>
+    lines: &Lines<'s, '_, T>,
+) -> Result<(Telling<'s, N>, Clerk<C>, Shut<N>), Shut<N>>
     requires fits { FitAnyBook T.fits lines.now.reports }
     requires archs { table lines.now.archs.now ≡ N.origin.stock.table }
     requires new { clerk.receipts ≡ [] }
     requires may_shut { N.may_shut ≡ true }
+    ensures script { IfOk result (λ made. made.0.script.now ≡ lines.now.script.now) }
     ensures parts { IfOk result (λ made. made.1.parts ≡ clerk.parts) }
     ensures few { IfOk result (λ made. made.0.told.refused ≤ length lines.now.script.now + 1) }
     ensures told { IfOk result (λ made. AreAnswered N.table N.origin N.opened clerk.parts
@@ -78,18 +81,19 @@ fn tell_all<N: Named, C: Ledger, T: Reports, R: Wait>(
 
 // The answers to the lines while builders work on threads of their own, which are joined then. The
 // desk is shut, whatever came of it.
-fn tell_beside<N: Named + Send + Sync, C: Ledger + Send + Sync, T: Reports>(
+fn tell_beside<'s, N: Named + Send + Sync, C: Ledger + Send + Sync, T: Reports>(
     rt: &(impl Threads + Wait + Sync),
     shift: &Shift<'_, '_, N, C>,
     clerk: Clerk<C>,
-    hired: Vec<Hired<N>>,
+    workers: Vec<Worker<N>>,
     builds: impl Builds + Copy + Send + Sync,
-    lines: &Lines<'_, '_, T>,
-) -> Result<(Telling<N>, Clerk<C>, Shut<N>), Shut<N>>
+    lines: &Lines<'s, '_, T>,
+) -> Result<(Telling<'s, N>, Clerk<C>, Shut<N>), Shut<N>>
     requires fits { FitAnyBook T.fits lines.now.reports }
     requires archs { table lines.now.archs.now ≡ N.origin.stock.table }
     requires new { clerk.receipts ≡ [] }
     requires may_shut { N.may_shut ≡ true }
+    ensures script { IfOk result (λ made. made.0.script.now ≡ lines.now.script.now) }
     ensures parts { IfOk result (λ made. made.1.parts ≡ clerk.parts) }
     ensures few { IfOk result (λ made. made.0.told.refused ≤ length lines.now.script.now + 1) }
     ensures told { IfOk result (λ made. AreAnswered N.table N.origin N.opened clerk.parts
@@ -99,11 +103,13 @@ fn tell_beside<N: Named + Send + Sync, C: Ledger + Send + Sync, T: Reports>(
     thread::scope(
         thread::scope_env(),
         rt,
-        |scope| -> Result<(Telling<N>, Clerk<C>, Shut<N>), Shut<N>>
+        |scope| -> Result<(Telling<'_, N>, Clerk<C>, Shut<N>), Shut<N>>
             requires fits { FitAnyBook T.fits lines.now.reports }
             requires archs { table lines.now.archs.now ≡ N.origin.stock.table }
             requires new { clerk.receipts ≡ [] }
             requires may_shut { N.may_shut ≡ true }
+            ensures script { IfOk result (λ made.
+                made.0.script.now ≡ lines.entry.now.script.now) }
             ensures parts { IfOk result (λ made. made.1.parts ≡ clerk.parts) }
             ensures few { IfOk result (λ made.
                 made.0.told.refused ≤ length lines.entry.now.script.now + 1) }
@@ -111,7 +117,7 @@ fn tell_beside<N: Named + Send + Sync, C: Ledger + Send + Sync, T: Reports>(
                 (setting_lent T.text N.origin.stock lines.entry.now.suites.now
                 lines.entry.now.reports) lines.entry.now.script.now made.1.receipts made.0.told) }
         {
-            for one in hired {
+            for one in workers {
                 // (a builder without a thread is missing)
                 let _ = scope.spawn(move || serve(rt, shift, one, builds));
             }
@@ -122,21 +128,22 @@ fn tell_beside<N: Named + Send + Sync, C: Ledger + Send + Sync, T: Reports>(
 
 // The answers to the lines with builders on these seats, the clerk with its receipts for them, and
 // who went home. Each builder who is missing is a refusal.
-fn tell_in_shift<N: Named + Send + Sync, C: Ledger + Send + Sync, T: Reports>(
+fn tell_in_shift<'s, N: Named + Send + Sync, C: Ledger + Send + Sync, T: Reports>(
     rt: &(impl Threads + Wait + Sync),
     desk: &Desk<'_, N, C>,
     clerk: Clerk<C>,
     seats: Vec<BuilderSeat>,
     builds: impl Builds + Copy + Send + Sync,
-    lines: &Lines<'_, '_, T>,
-) -> Result<(Telling<N>, Clerk<C>, Homes<N>), AllocError>
-    requires seats { All (λ s. s.table ≡ N.table) seats.items }
+    lines: &Lines<'s, '_, T>,
+) -> Result<(Telling<'s, N>, Clerk<C>, Homes<N>), AllocError>
+    requires seats { seats.items ≡ new_seats N.table 1 (length seats.items) }
     requires few { length seats.items ≤ max_builders }
     requires staffed { N.origin.builders ≡ length seats.items }
     requires fits { FitAnyBook T.fits lines.now.reports }
     requires archs { table lines.now.archs.now ≡ N.origin.stock.table }
     requires new { clerk.receipts ≡ [] }
     requires may_shut { N.may_shut ≡ true }
+    ensures script { IfOk result (λ made. made.0.script.now ≡ lines.now.script.now) }
     ensures parts { IfOk result (λ made. made.1.parts ≡ clerk.parts) }
     ensures few { IfOk result (λ made.
         made.0.told.refused ≤ length lines.now.script.now + length seats.items + 1) }
@@ -145,9 +152,9 @@ fn tell_in_shift<N: Named + Send + Sync, C: Ledger + Send + Sync, T: Reports>(
         lines.now.script.now (length seats.items) (length seats.items - made.2.count)
         made.1.receipts made.0.told) }
 {
-    let (hired, homes) = hire::<N>(lines.alloc, seats)?;
+    let (workers, homes) = hire_workers::<N>(lines.alloc, seats)?;
     let shift = Shift::new(desk, homes);
-    match tell_beside(rt, &shift, clerk, hired, builds, lines) {
+    match tell_beside(rt, &shift, clerk, workers, builds, lines) {
         Ok((mut told, clerk, _shut)) => {
             let homes = shift.end()?;
             told.miss(&homes);
@@ -185,16 +192,17 @@ fn closed<'a, N: Named, C: Ledger>(desk: Desk<'a, N, C>, clerks: Vec<Clerk<C>>) 
 }
 
 // Closes the desk, and appends the rows of its book to the answers.
-fn close<N: Named, C: Ledger>(
+fn close<'s, N: Named, C: Ledger>(
     alloc: Global,
     desk: Desk<'_, N, C>,
     clerk: Clerk<C>,
-    telling: Telling<N>,
-) -> Result<Telling<N>, AllocError>
+    telling: Telling<'s, N>,
+) -> Result<Telling<'s, N>, AllocError>
     requires room { telling.told.refused < 2 ^ 64 - 1 }
     requires parts { clerk.parts ≡ 1024 }
-    ensures { IfOk result (λ closed.
-        IsClosed N.table N.origin N.opened clerk.receipts telling.told closed.told) }
+    ensures script { IfOk result (λ closed. closed.script ≡ telling.entry.script) }
+    ensures closed { IfOk result (λ closed.
+        IsClosed N.table N.origin N.opened clerk.receipts telling.entry.told closed.told) }
 {
     let clerks = match alone(alloc, clerk) {
         Ok(clerks) => clerks,
@@ -210,15 +218,15 @@ fn close<N: Named, C: Ledger>(
 }
 
 // What a crew at this desk answers to a script.
-fn tell_at<N: Named + Send + Sync, C: Ledger + Send + Sync, T: Reports>(
+fn tell_at<'s, N: Named + Send + Sync, C: Ledger + Send + Sync, T: Reports>(
     rt: &(impl Threads + Wait + Sync),
     desk: Desk<'_, N, C>,
     clerk: Clerk<C>,
     seats: Vec<BuilderSeat>,
     builds: impl Builds + Copy + Send + Sync,
-    lines: &Lines<'_, '_, T>,
-) -> Result<Telling<N>, AllocError>
-    requires seats { All (λ s. s.table ≡ N.table) seats.items }
+    lines: &Lines<'s, '_, T>,
+) -> Result<Telling<'s, N>, AllocError>
+    requires seats { seats.items ≡ new_seats N.table 1 (length seats.items) }
     requires few { length seats.items ≤ max_builders }
     requires staffed { N.origin.builders ≡ length seats.items }
     requires fits { FitAnyBook T.fits lines.now.reports }
@@ -227,7 +235,8 @@ fn tell_at<N: Named + Send + Sync, C: Ledger + Send + Sync, T: Reports>(
     requires opened { N.opened ≡ marks_begun N.origin.journal }
     requires short { IsShort N.origin.journal }
     requires may_shut { N.may_shut ≡ true }
-    ensures { IfOk result (λ telling. EndsFrom (length seats.items)
+    ensures script { IfOk result (λ telling. telling.script.now ≡ lines.now.script.now) }
+    ensures told { IfOk result (λ telling. EndsFrom (length seats.items)
         (setting_lent T.text N.origin.stock lines.now.suites.now lines.now.reports)
         N.origin.journal N.origin.rows lines.now.script.now telling.told) }
 {
@@ -281,14 +290,14 @@ fn begin<'a, N: Named, C: Ledger>(
 }
 
 // What a crew answers to a script at a desk, if one was begun.
-fn tell_if_begun<N: Named + Send + Sync, C: Ledger + Send + Sync, T: Reports>(
+fn tell_if_begun<'s, N: Named + Send + Sync, C: Ledger + Send + Sync, T: Reports>(
     rt: &(impl Threads + Wait + Sync),
     begun: Result<(Desk<'_, N, C>, Clerk<C>), ReadError>,
     seats: Vec<BuilderSeat>,
     builds: impl Builds + Copy + Send + Sync,
-    lines: &Lines<'_, '_, T>,
-) -> Result<Telling<N>, ReadError>
-    requires seats { All (λ s. s.table ≡ N.table) seats.items }
+    lines: &Lines<'s, '_, T>,
+) -> Result<Telling<'s, N>, ReadError>
+    requires seats { seats.items ≡ new_seats N.table 1 (length seats.items) }
     requires few { length seats.items ≤ max_builders }
     requires staffed { N.origin.builders ≡ length seats.items }
     requires fits { FitAnyBook T.fits lines.now.reports }
@@ -297,6 +306,7 @@ fn tell_if_begun<N: Named + Send + Sync, C: Ledger + Send + Sync, T: Reports>(
     requires opened { N.opened ≡ marks_begun N.origin.journal }
     requires short { OnOk begun (IsShort N.origin.journal) }
     requires may_shut { N.may_shut ≡ true }
+    ensures script { IfOk result (λ telling. telling.script.now ≡ lines.now.script.now) }
     ensures told { IfOk result (λ telling. EndsFrom (length seats.items)
         (setting_lent T.text N.origin.stock lines.now.suites.now lines.now.reports)
         N.origin.journal N.origin.rows lines.now.script.now telling.told) }
@@ -313,7 +323,7 @@ fn tell_if_begun<N: Named + Send + Sync, C: Ledger + Send + Sync, T: Reports>(
 }
 
 // What a crew at the named board answers to a script.
-fn tell_named<N: Named + Send + Sync, C: Ledger + Send + Sync, T: Reports>(
+fn tell_named<'s, N: Named + Send + Sync, C: Ledger + Send + Sync, T: Reports>(
     rt: &(impl Threads + Wait + Sync),
     board: Board,
     seat: DeskSeat,
@@ -322,11 +332,11 @@ fn tell_named<N: Named + Send + Sync, C: Ledger + Send + Sync, T: Reports>(
     supply: Supply<'_>,
     blank: Blank,
     builds: impl Builds + Copy + Send + Sync,
-    lines: &Lines<'_, '_, T>,
-) -> Result<Telling<N>, ReadError>
+    lines: &Lines<'s, '_, T>,
+) -> Result<Telling<'s, N>, ReadError>
     requires board { board.table ≡ N.table }
     requires seat { seat.table ≡ N.table }
-    requires seats { All (λ s. s.table ≡ N.table) seats.items }
+    requires seats { seats.items ≡ new_seats N.table 1 (length seats.items) }
     requires few { length seats.items ≤ max_builders }
     requires staffed { length seat.desk.noted ≡ length seats.items }
     requires origin { N.origin
@@ -345,6 +355,7 @@ fn tell_named<N: Named + Send + Sync, C: Ledger + Send + Sync, T: Reports>(
     requires archs { table lines.now.archs.now ≡ (stock_of supply).table }
     requires may_shut { N.may_shut ≡ true }
     ensures begun { OnOk result (HasBegun (option_map (λ s. s.now) lines.now.journal) rows) }
+    ensures script { IfOk result (λ telling. telling.script.now ≡ lines.now.script.now) }
     ensures told { IfOk result (λ telling. EndsFrom (length seats.items)
         (setting_lent T.text (stock_of supply.entry) lines.now.suites.now lines.now.reports)
         (option_map (λ s. s.now) lines.now.journal) rows lines.now.script.now telling.told) }

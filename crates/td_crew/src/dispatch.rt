@@ -3,6 +3,8 @@ ghost use Rattle.std.specs.Prelude.{◌≡◌, IfOk, map, string_bytes};
 ghost use Rattle.td_relation.specs.TableView.{table};
 ghost use Rattle.td_wbread.specs.Command.{command_at};
 ghost use Rattle.td_desk.specs.Calls.{IsMetBy};
+ghost use Rattle.td_script.specs.declared.line.Said.TheVariants.{Typed};
+ghost use Rattle.td_script.specs.Reading.{said_at};
 ghost use Rattle.td_script.specs.Settings.{setting_lent};
 ghost use Rattle.td_crew.specs.Lines.{FitAnyBook};
 ghost use Rattle.td_crew.specs.Replies.{MayReply, MayType, Says};
@@ -26,7 +28,8 @@ fn type_in<N: Named, C: Ledger, T: Reports, R: Wait>(
     line: &str,
     out: &mut Words<'_, N>,
 ) -> Result<bool, AllocError>
-    requires { out.old.turn.line.now ≡ line.now }
+    requires line { out.old.turn.line.now ≡ line.now }
+    requires typed { said_at line.now ≡ Typed }
     ensures turn { out.new.turn ≡ out.old.turn }
     ensures parts { clerk.new.parts ≡ clerk.old.parts }
     ensures says { IfOk result (Says (MayType
@@ -37,7 +40,7 @@ fn type_in<N: Named, C: Ledger, T: Reports, R: Wait>(
     match read_command(lines.alloc, line, lines.archs, lines.suites) {
         Ok(typed) => command(rt, desk, clerk, lines, &typed, out),
         Err(CommandFault::Wrong(fault, _)) => {
-            out.fault(fault)?;
+            out.fault(lines, fault)?;
             Ok(true)
         }
         Err(CommandFault::NoMemory) => Err(AllocError),

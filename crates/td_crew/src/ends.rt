@@ -2,10 +2,11 @@
 ghost use Rattle.std.specs.Prelude.{◌≡◌, ◌+◌, ◌-◌, ◌<◌, ◌^◌, false, true, IfOk, OnErr, OnOk};
 ghost use Rattle.td_builder.specs.Floors.{IsIdle};
 
+use crate::worker::Worker;
 use std::alloc::AllocError;
 use std::marker::PhantomData;
 use td_builder::WorkStop;
-use td_desk::{Hired, Home, Homes, Named};
+use td_desk::{Home, Homes, Named};
 
 /// That a builder stops, and why. It is made of what is noted, and if the reason is that memory ran
 /// out, that was noted. It is no `Drop`, so it is counted: only `Ends` takes it, with the builder's
@@ -74,18 +75,18 @@ impl<N: Named> Ends<N> {
 
     /// Counts a builder, who leaves its seat: one that goes home, without a row, as that, and no
     /// one that stopped.
-    pub fn count(&mut self, end: Result<Home<N>, Stopped<N>>, hired: Hired<N>)
-        requires { OnOk end (IsIdle hired.seat) }
+    pub fn count(&mut self, end: Result<Home<N>, Stopped<N>>, worker: Worker<N>)
+        requires { OnOk end (IsIdle worker.hired.seat) }
         ensures home { OnOk end (self.old.homes.count < 2 ^ 64 - 1
             → self.new.homes.count ≡ self.old.homes.count + 1) }
         ensures stopped { OnErr end (self.new.homes ≡ self.old.homes) }
         ensures memory { self.new.wants_memory ≡ self.old.wants_memory }
     {
         match end {
-            Ok(home) => self.homes.add(home, hired),
+            Ok(home) => worker.go(home, &mut self.homes),
             Err(stopped) => {
                 let Stopped { why: _, of: _ } = stopped;
-                let _left = hired;
+                let _left = worker;
             }
         }
     }

@@ -21,6 +21,7 @@ mod shown;
 mod telling;
 mod told;
 mod words;
+mod worker;
 
 pub use crew::{Crew, tell_script};
 pub use running::{CrewFault, run_crew, run_crew_with};

@@ -8,12 +8,13 @@ ghost use Rattle.td_desk.specs.Calls.{IsOfDesk, Starting, Finishing, MayStart, M
 ghost use Rattle.td_desk.specs.Calls.{IsAtEnd, MayEnd, MayBreakOff};
 
 use crate::ends::{Ends, Stopped};
+use crate::worker::Worker;
 use std::alloc::AllocError;
 use std::sync::ledger::Ledger;
 use std::sync::{Mutex, Wait};
 use td_board::BuilderSeat;
 use td_builder::{Floor, WorkStop};
-use td_desk::{Desk, Ended, Hired, Home, Homes, Named, Ready, Started};
+use td_desk::{Desk, Ended, Home, Homes, Named, Ready, Started};
 use td_rows::Outcome;
 
 /// A desk as its builders see it. Once a builder has stopped for memory, `ready` says to the others
@@ -33,10 +34,10 @@ impl<'d, 'a, N: Named, C: Ledger> Shift<'d, 'a, N, C> {
     }
 
     /// Counts a builder by how its work ended. It leaves its seat; one that goes home has no row.
-    pub fn count<R: Wait>(&self, rt: &R, end: Result<Home<N>, Stopped<N>>, hired: Hired<N>)
-        requires { OnOk end (IsIdle hired.seat) }
+    pub fn count<R: Wait>(&self, rt: &R, end: Result<Home<N>, Stopped<N>>, worker: Worker<N>)
+        requires { OnOk end (IsIdle worker.hired.seat) }
     {
-        self.ends.lock(rt).count(end, hired);
+        self.ends.lock(rt).count(end, worker);
     }
 
     /// Who has gone home, once no builder has a thread any more; an error if one lacked memory.

@@ -1,5 +1,5 @@
 //! What is told of a script at a desk: the answers to its lines, and then the rows.
-ghost use Rattle.std.specs.Prelude.{◌≡◌, ◌+◌, ◌-◌, ◌<◌, ◌^◌, IfOk, MatchResult, Ok, Err};
+ghost use Rattle.std.specs.Prelude.{◌≡◌, ◌+◌, ◌-◌, ◌<◌, ◌^◌, IfOk, MatchResult, None, Ok, Err};
 ghost use Rattle.td_desk.specs.Calls.{IsAtEnd};
 ghost use Rattle.td_crew.specs.CrewText.{HasRows};
 
@@ -12,24 +12,26 @@ use td_journal::ReadError;
 use td_rows::rows_text;
 use td_script::Told;
 
-/// What is told of a script at this desk. It is made of the words of its answers.
+/// What is told of this script at this desk. It is made of the words of its answers.
 #[derive(Drop)]
-pub struct Telling<N: Named> {
+pub struct Telling<'s, N: Named> {
+    script: &'s str,
     told: Told,
     of: PhantomData<N>,
 }
 
-impl<N: Named> Telling<N> {
-    /// The answers to the lines, so many of which are refused.
-    pub fn of(words: Words<'_, N>, refused: u64) -> Telling<N>
+impl<'s, N: Named> Telling<'s, N> {
+    /// The answers to all lines, so many of which are refused.
+    pub fn of(words: Words<'s, N>, refused: u64) -> Telling<'s, N>
+        requires { words.turn.rest ≡ None }
+        ensures script { result.script ≡ words.entry.turn.script }
         ensures text { result.told.text ≡ words.entry.text }
         ensures refused { result.told.refused ≡ refused }
     {
-        let told = Told {
-            text: words.into_text(),
-            refused,
-        };
+        let (script, text) = words.into_told();
+        let told = Told { text, refused };
         Telling {
+            script,
             told,
             of: PhantomData,
         }
@@ -38,6 +40,7 @@ impl<N: Named> Telling<N> {
     /// Counts each builder who is missing as a refusal.
     pub fn miss(&mut self, homes: &Homes<N>)
         requires { self.old.told.refused + N.origin.builders < 2 ^ 64 }
+        ensures script { self.new.script ≡ self.old.script }
         ensures text { self.new.told.text ≡ self.old.told.text }
         ensures refused { self.new.told.refused
             ≡ self.old.told.refused + (N.origin.builders - homes.now.count) }
@@ -53,17 +56,21 @@ impl<N: Named> Telling<N> {
         alloc: Global,
         book: &Book<'_>,
         refusals: u64,
-    ) -> Result<Telling<N>, AllocError>
+    ) -> Result<Telling<'s, N>, AllocError>
         requires { self.told.refused + refusals < 2 ^ 64 }
-        ensures { IfOk result (λ closed. HasRows
-            (record { text = self.told.text; refused = self.told.refused + refusals })
+        ensures script { IfOk result (λ closed. closed.script ≡ self.entry.script) }
+        ensures rows { IfOk result (λ closed. HasRows
+            (record {
+              text = self.entry.told.text;
+              refused = self.entry.told.refused + refusals;
+            })
             book.now.history closed.told) }
     {
-        let Telling { told, of } = self;
+        let Telling { script, told, of } = self;
         let mut told = told;
         told.refused += refusals;
         let told = tell_rows(alloc, told, book)?;
-        Ok(Telling { told, of })
+        Ok(Telling { script, told, of })
     }
 }
 
@@ -79,11 +86,17 @@ fn tell_rows(alloc: Global, told: Told, book: &Book<'_>) -> Result<Told, AllocEr
 }
 
 /// What is told of a script, if anything.
-pub fn told_of<N: Named>(telling: Result<Telling<N>, ReadError>) -> Result<Told, ReadError>
-    ensures { MatchResult telling (λ t. result ≡ Ok t.told) (λ e. result ≡ Err e) }
+pub fn told_of<N: Named>(telling: Result<Telling<'_, N>, ReadError>) -> Result<Told, ReadError>
+    ensures { MatchResult telling.entry (λ t. result ≡ Ok t.told) (λ e. result ≡ Err e) }
 {
     match telling {
-        Ok(Telling { told, of: _ }) => Ok(told),
+        Ok(
+            Telling {
+                script: _,
+                told,
+                of: _,
+            },
+        ) => Ok(told),
         Err(fault) => Err(fault),
     }
 }

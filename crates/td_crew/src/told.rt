@@ -53,15 +53,16 @@ fn add_line<N: Named, C: Ledger, T: Reports, R: Wait>(
 
 /// Answers the lines of a script, one after the other. The clerk has all of its parts still, so
 /// that each change made with them has a receipt that a line tells of.
-pub fn tell_lines<N: Named, C: Ledger, T: Reports, R: Wait>(
+pub fn tell_lines<'s, N: Named, C: Ledger, T: Reports, R: Wait>(
     rt: &R,
     desk: &Desk<'_, N, C>,
     clerk: &mut Clerk<C>,
-    lines: &Lines<'_, '_, T>,
-) -> Result<Telling<N>, AllocError>
+    lines: &Lines<'s, '_, T>,
+) -> Result<Telling<'s, N>, AllocError>
     requires fits { FitAnyBook T.fits lines.now.reports }
     requires archs { table lines.now.archs.now ≡ N.origin.stock.table }
     requires new { clerk.old.receipts ≡ [] }
+    ensures script { IfOk result (λ telling. telling.script.now ≡ lines.now.script.now) }
     ensures parts { clerk.new.parts ≡ clerk.old.parts }
     ensures few { IfOk result (λ telling.
         telling.told.refused ≤ length lines.now.script.now + 1) }

@@ -1,13 +1,14 @@
 //! The words of the answers to a script's lines. They are made of the desk's own values alone: of
 //! what its calls answer, and of what was seen under its lock. No other body can write one.
-ghost use Rattle.std.specs.Prelude.{◌≡◌, ◌++◌, ◌∷◌, ◌<◌, [], false, Ok, None, Some, IfNone, IfOk};
-ghost use Rattle.std.specs.Prelude.{IfSome, IsOkAnd, OnOk, codes, map, string_bytes};
+ghost use Rattle.std.specs.Prelude.{◌≡◌, ◌++◌, ◌∷◌, ◌<◌, [], ℕ, false, Ok, Err, None, Some, IfNone};
+ghost use Rattle.std.specs.Prelude.{IfOk, IfSome, IsOkAnd, OnOk, codes, map, string_bytes};
 ghost use Rattle.td_text.specs.Lines.{left_len, lines_left};
 ghost use Rattle.td_relation.specs.TableView.{table};
 ghost use Rattle.td_wbread.specs.Command.{command_at};
 ghost use Rattle.td_wbread.specs.FaultNames.{name_of};
+ghost use Rattle.td_wbread.specs.declared.fault.CommandFault.TheVariants.{Wrong};
 ghost use Rattle.td_wbread.specs.Views.{parts_of};
-ghost use Rattle.td_script.specs.declared.line.Said.TheVariants.{Asked};
+ghost use Rattle.td_script.specs.declared.line.Said.TheVariants.{Asked, Bad, Typed};
 ghost use Rattle.td_script.specs.declared.request.Request.TheVariants as requests;
 ghost use Rattle.td_script.specs.Reading.{said_at};
 ghost use Rattle.td_script.specs.Replies.{ended, refusal_line};
@@ -31,6 +32,7 @@ use td_wbread::LineFault;
 /// The line of a script that is being answered, and what follows it.
 #[derive(Clone, Copy)]
 pub struct Turn<'s> {
+    script: &'s str,
     line: &'s str,
     rest: Option<&'s str>,
 }
@@ -48,11 +50,13 @@ impl<'s, N: Named> Words<'s, N> {
     /// No answer yet: the first line comes next.
     pub fn new(alloc: Global, script: &'s str) -> Words<'s, N>
         ensures text { string_bytes result.text ≡ [] }
+        ensures script { result.turn.script ≡ script.entry }
         ensures rest { result.turn.rest ≡ Some script.entry }
     {
         Words {
             text: String::new(alloc),
             turn: Turn {
+                script,
                 line: "",
                 rest: Some(script),
             },
@@ -63,7 +67,9 @@ impl<'s, N: Named> Words<'s, N> {
     /// Goes on to the next line, if there is one.
     pub fn next(&mut self) -> Option<&'s str>
         ensures text { self.new.text ≡ self.old.text }
+        ensures script { self.new.turn.script ≡ self.old.turn.script }
         ensures none { IfNone result (self.old.turn.rest ≡ None) }
+        ensures end { IfNone result (self.new.turn ≡ self.old.turn) }
         ensures line { IfSome result (λ line. self.new.turn.line ≡ line) }
         ensures lines { IfSome result (λ line.
             lines_left self.old.turn.rest ≡ line.now ∷ lines_left self.new.turn.rest) }
@@ -74,12 +80,14 @@ impl<'s, N: Named> Words<'s, N> {
             return None;
         };
         let (line, rest) = next_line(left);
-        self.turn = Turn { line, rest };
+        let script = self.turn.script;
+        self.turn = Turn { script, line, rest };
         Some(line)
     }
 
     /// A line that can't be read.
     pub fn bad_line(&mut self) -> Result<(), AllocError>
+        requires { said_at self.old.turn.line.now ≡ Bad }
         ensures turn { self.new.turn ≡ self.old.turn }
         ensures ok { OnOk result (string_bytes self.new.text
             ≡ string_bytes self.old.text ++ refusal_line (codes "BadLine")) }
@@ -87,12 +95,21 @@ impl<'s, N: Named> Words<'s, N> {
         put_refusal(&mut self.text, "BadLine")
     }
 
-    /// A line that is typed and has a fault.
-    pub fn fault(&mut self, fault: LineFault) -> Result<(), AllocError>
+    /// A line that is typed and has a fault, which is its first.
+    pub fn fault<T: Reports>(
+        &mut self,
+        lines: &Lines<'_, '_, T>,
+        fault: LineFault,
+    ) -> Result<(), AllocError>
+        requires typed { said_at self.old.turn.line.now ≡ Typed }
+        requires first { (place : ℕ) × (command_at (table lines.now.archs.now)
+            (map (λ s. s.now) lines.now.suites.now) self.old.turn.line.now
+            ≡ Err (Wrong fault place)) }
         ensures turn { self.new.turn ≡ self.old.turn }
         ensures ok { OnOk result (string_bytes self.new.text
             ≡ string_bytes self.old.text ++ refusal_line (name_of fault)) }
     {
+        let _read_by = lines;
         put_refusal(&mut self.text, fault.name())
     }
 
@@ -150,7 +167,8 @@ impl<'s, N: Named> Words<'s, N> {
 
     /// A sweep that found nothing, or lacked memory.
     pub fn unswept(&mut self, swept: Swept<N>) -> Result<bool, AllocError>
-        requires { IfOk swept.answer (λ number. number ≡ None) }
+        requires line { said_at self.old.turn.line.now ≡ Asked requests.Sweep }
+        requires none { IfOk swept.answer (λ number. number ≡ None) }
         ensures turn { self.new.turn ≡ self.old.turn }
         ensures none { OnOk result (swept.answer ≡ Ok None) }
         ensures ok { IfOk result (IsPut (ended (codes "nothing to sweep")) false
@@ -167,7 +185,8 @@ impl<'s, N: Named> Words<'s, N> {
         swept: Swept<N>,
         seen: Seen<N, SweptLook, Result<String, AllocError>>,
     ) -> Result<bool, AllocError>
-        requires { swept.answer ≡ Ok (Some seen.by.value.number) }
+        requires line { said_at self.old.turn.line.now ≡ Asked requests.Sweep }
+        requires entry { swept.answer ≡ Ok (Some seen.by.value.number) }
         ensures turn { self.new.turn ≡ self.old.turn }
         ensures ok { IfOk result (λ refused. IsOkAnd seen.answer (λ text.
             IsPut (string_bytes text) false (string_bytes self.old.text)
@@ -194,10 +213,12 @@ impl<'s, N: Named> Words<'s, N> {
         put_shown(&mut self.text, shown)
     }
 
-    /// The text of all answers.
-    pub fn into_text(self) -> String
-        ensures { result ≡ self.entry.text }
+    /// The script, each line of which had its turn, and the text of all answers.
+    pub fn into_told(self) -> (&'s str, String)
+        requires { self.turn.rest ≡ None }
+        ensures script { result.0 ≡ self.entry.turn.script }
+        ensures text { result.1 ≡ self.entry.text }
     {
-        self.text
+        (self.turn.script, self.text)
     }
 }

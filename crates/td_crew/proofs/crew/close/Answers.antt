@@ -9,8 +9,8 @@ use Rattle.td_crew.specs.CrewText.{IsClosing}
 use Rattle.td_crew.proofs.Endings.{rows_closed}
 use Rattle.td_crew.proofs.crew.close.Goals as goal
 
-pub returns : goal.returns
-returns g c =
+pub returns-clause-closed : goal.returns-clause-closed
+returns-clause-closed g c =
     let book = c.closed-book.result.0 in
     let more = c.closed-book.result.1 in
     let found = changes g.N.Named.opened book in
@@ -31,4 +31,4 @@ returns g c =
     (λ closing. rows_closed g.N.Named.table g.N.Named.origin g.N.Named.opened c.args.clerk.receipts
     c.args.telling.told mid closing.told book more c.closed-book.ensures.of_desk c.closed-book.ensures.still
     counted closed refl refl)
-    c.close-closed.ensures
+    c.close-closed.ensures.rows

@@ -3,8 +3,8 @@ use Rattle.std.proofs.Common.{ap, arith}
 use Rattle.std.specs.Prelude.{string_bytes}
 use Rattle.td_crew.proofs.crew.tell_in_shift.Goals as goal
 
-pub returns-in_ok-homes-in-Ok-clause-told : goal.returns-in_ok-homes-in-Ok-clause-told
-returns-in_ok-homes-in-Ok-clause-told g c = record {
+pub returns-in-Ok-clause-told : goal.returns-in-Ok-clause-told
+returns-in-Ok-clause-told g c = record {
   lines = c.in-Ok.told.told;
   are = c.in-Ok.ensures.told;
   text_is = ap string_bytes c.miss.ensures.text;

@@ -3,8 +3,8 @@ use Rattle.std.proofs.Common.{◌≡◌, ◌≤◌, ℕ, List, [], ◌∷◌, Bo
 use Rattle.std.proofs.Common.{ap, rules, subst, sym, ◌∙◌}
 use Rattle.std.proofs.lemmas.List.{length-replicate}
 use Rattle.td_board.specs.Limits.{max_builders}
-use Rattle.td_board.specs.Seats.{DeskModel}
-use Rattle.td_board.proofs.NewSeats.{desk_at, length-seats, seats_at}
+use Rattle.td_board.specs.Seats.{DeskModel, new_seats}
+use Rattle.td_board.proofs.NewSeats.{desk_at, length-seats}
 use Rattle.td_supply.specs.Supply.{Stock, stock_of}
 use Rattle.td_script.proofs.OpeningLaws.{fresh_supply, stock-opened}
 use Rattle.td_script.specs.Asking.{journal_asked, setting_asked}
@@ -16,8 +16,9 @@ use Rattle.td_crew.proofs.crew.tell_script.Goals as goal
 
 pub tell_named-telling-requires-clause-seats : goal.tell_named-telling-requires-clause-seats
 tell_named-telling-requires-clause-seats g c κs within =
-    seats_at c.in-Ok.board.table 1 c.args.crew.builders c.in-Ok.seats.items
-    c.in-Ok.ensures.ok.builder_seats
+    subst (λ (n : ℕ). c.in-Ok.seats.items ≡ new_seats c.in-Ok.board.table 1 n)
+    (sym (length-seats c.in-Ok.board.table 1 c.args.crew.builders c.in-Ok.seats.items
+    c.in-Ok.ensures.ok.builder_seats)) c.in-Ok.ensures.ok.builder_seats
 
 pub tell_named-telling-requires-clause-few : goal.tell_named-telling-requires-clause-few
 tell_named-telling-requires-clause-few g c κs within =

@@ -12,6 +12,7 @@ loop-line-init g c = (
   so_far-begun _ _ _ _ _ c.args.lines.now.script _ _ _ c.new.ensures.text refl c.requires.new
       c.new.ensures.rest,
   refl,
+  c.new.ensures.script,
 )
 
 pub loop-line-preserved : goal.loop-line-preserved
@@ -44,7 +45,13 @@ loop-line-preserved g c =
           c.next.new.self.turn.rest c.loop-line.invariant.0 c.in-Some.ensures.lines
           c.in-Some.ensures.shorter c.in_ok-add_line.ensures.few replied),
       c.in_ok-add_line.ensures.parts ∙ c.loop-line.invariant.1,
+      ap (λ (t : Turn). t.script) c.in_ok-add_line.ensures.turn ∙ c.in-Some.ensures.script
+          ∙ c.loop-line.invariant.2,
     )
+
+pub of-requires : goal.of-requires
+of-requires g c =
+    ap (λ (t : Turn). t.rest) c.in_default.ensures.end ∙ c.in_default.ensures.none
 
 pub returns-clause-told : goal.returns-clause-told
 returns-clause-told g c =
