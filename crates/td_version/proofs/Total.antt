@@ -64,6 +64,10 @@ pairs_total = record {
 pub part_total : IsTotalOrder part_cmp
 part_total = on_total pairs pairs_total
 
+-- a part is equal to itself
+pub part_reflexive : (a b : List ℕ) → a ≡ b → Equal ≡ part_cmp a b
+part_reflexive a b is = sym (tied_itself part_total a) ∙ ap (part_cmp a) is
+
 pub version_total : IsTotalOrder version_cmp
 version_total =
     then_total (on_total (λ p. p.epoch) nat_cmp_total)

@@ -28,11 +28,11 @@ pub fn cmp_version(a: &Version<'_>, b: &Version<'_>) -> Ordering
     if order != Ordering::Equal {
         return order;
     }
-    let order = cmp_part(a.upstream, b.upstream);
+    let order = cmp_text(a.upstream, b.upstream);
     if order != Ordering::Equal {
         return order;
     }
-    cmp_part(a.revision.unwrap_or("0"), b.revision.unwrap_or("0"))
+    cmp_text(a.revision.unwrap_or("0"), b.revision.unwrap_or("0"))
 }
 
 /// Whether two versions are equal in order, as `1.0` and `1.0-0` are.
@@ -42,7 +42,17 @@ pub fn is_same_version(a: &Version<'_>, b: &Version<'_>) -> bool
     cmp_version(a, b) == Ordering::Equal
 }
 
-/// The order of two upstream parts, or of two revisions.
+/// The order of two upstream parts, or of two revisions. Most that are equal are spelled alike.
+fn cmp_text(a: &str, b: &str) -> Ordering
+    ensures { result ≡ part_cmp a.now b.now }
+{
+    if a == b {
+        return Ordering::Equal;
+    }
+    cmp_part(a, b)
+}
+
+/// The order of two upstream parts, or of two revisions, symbol by symbol and number by number.
 fn cmp_part(a: &str, b: &str) -> Ordering
     ensures { result ≡ part_cmp a.now b.now }
 {
