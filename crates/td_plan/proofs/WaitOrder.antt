@@ -27,8 +27,8 @@ use Rattle.td_plan.specs.Packages.{present_package}
 use Rattle.td_plan.specs.Premises.{PackagesAreApart, Premises}
 use Rattle.td_plan.specs.Reasons.{is_exactly}
 use Rattle.td_plan.specs.Waits as spec
-use Rattle.td_plan.specs.Waits.{awaited, is_source_before, is_wait_before, wait_for, wait_if}
-use Rattle.td_plan.specs.Waits.{wait_of, wait_with, waits_of}
+use Rattle.td_plan.specs.Waits.{is_source_before, is_wait_before, wait_for, wait_if}
+use Rattle.td_plan.specs.Waits.{wait_of, wait_with}
 use Rattle.td_plan.specs.inner.Waiting.{seen}
 use Rattle.td_plan.proofs.Chosen.{in_order-again, in_order-found}
 use Rattle.td_plan.proofs.InOrders.{first-least}

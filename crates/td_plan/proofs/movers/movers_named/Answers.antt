@@ -1,5 +1,5 @@
 -- `movers_named`: what it answers.
-use Rattle.std.proofs.Common.{◌≡◌, ◌∙◌, List, Option, Result, ap, map, subst, sym, ℕ}
+use Rattle.std.proofs.Common.{◌∙◌, List, Option, Result, ap, map, subst, sym, ℕ}
 use Rattle.std.specs.Borrow.{Bor}
 use Rattle.std.specs.List.{AllZip}
 use Rattle.std.specs.declared.alloc.AllocError.{AllocError}
