@@ -6,6 +6,9 @@ use std::collections::HashMap;
 use std::collections::hash_map::Entry;
 use td_indices::Archive;
 
+/// How many names a source's packages have, with those that they provide: room is taken for so many.
+const NAMES: usize = 8;
+
 /// A package under a name that it offers.
 #[derive(Clone, Copy)]
 pub struct Provider {
@@ -140,7 +143,7 @@ impl<'a> Providers<'a> {
     ) -> Result<Providers<'a>, AllocError>
         ensures { IfOk result (λ providers. AreProviders archive.now movers.now providers) }
     {
-        let mut providers = Providers::with_capacity(alloc, movers.len())?;
+        let mut providers = Providers::with_capacity(alloc, movers.len().saturating_mul(NAMES))?;
         for owner in 0..movers.len() {
             providers.push_mover(alloc, archive, movers, owner)?;
         }
