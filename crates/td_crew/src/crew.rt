@@ -1,6 +1,6 @@
 //! A crew: a clerk with builders.
 ghost use Rattle.std.specs.Prelude.{◌≡◌, ◌+◌, ◌-◌, ◌≤◌, ◌<◌, ◌^◌, ◌∷◌, [], Err, IfErr, IfOk};
-ghost use Rattle.std.specs.Prelude.{OnOk, length, option_map, string_bytes, true};
+ghost use Rattle.std.specs.Prelude.{OnOk, length, option_map, true};
 ghost use Rattle.td_desk.specs.Clerks.{all_parts, all_receipts};
 ghost use Rattle.td_board.specs.Knowledge.{new_desk};
 ghost use Rattle.td_board.specs.Limits.{max_builders};
@@ -14,7 +14,7 @@ ghost use Rattle.td_inputs.specs.Inputs.{IsJournalIfGiven};
 ghost use Rattle.td_script.specs.Settings.{setting_lent};
 ghost use Rattle.td_desk.specs.Calls.{IsOfDesk};
 ghost use Rattle.td_desk.specs.Changes.{changes, still_undone};
-ghost use Rattle.td_crew.specs.CrewText.{AreAnswered, EndsFrom, HasBegun, HasRows, IsClosed};
+ghost use Rattle.td_crew.specs.CrewText.{AreAnswered, EndsFrom, HasBegun, IsClosed};
 ghost use Rattle.td_crew.specs.CrewText.{IsClosing, IsShift, IsShort, crew_tells, marks_begun};
 ghost use Rattle.td_crew.specs.Lines.{FitAnyBook};
 
