@@ -19,7 +19,7 @@ ghost use Rattle.td_crew.specs.Replies.{MayUndo, Says};
 
 use crate::lines::Lines;
 use crate::shown::{SweptLook, View, show};
-use crate::words::Words;
+use crate::line_answers::LineAnswers;
 use std::alloc::{AllocError, Global};
 use std::sync::Wait;
 use std::sync::ledger::Ledger;
@@ -48,7 +48,7 @@ pub fn command<N: Named, C: Ledger, T: Reports, R: Wait>(
     clerk: &mut Clerk<C>,
     lines: &Lines<'_, '_, T>,
     command: &Command<'_>,
-    out: &mut Words<'_, N>,
+    out: &mut LineAnswers<'_, N>,
 ) -> Result<bool, AllocError>
     requires { command_at (table lines.now.archs.now) (map (λ s. s.now) lines.now.suites.now)
         out.old.turn.line.now ≡ Ok (parts_of command.now) }
@@ -69,7 +69,7 @@ fn undo<N: Named, C: Ledger, R: Wait>(
     desk: &Desk<'_, N, C>,
     clerk: &mut Clerk<C>,
     n: EntryNo,
-    out: &mut Words<'_, N>,
+    out: &mut LineAnswers<'_, N>,
 ) -> Result<bool, AllocError>
     requires { said_at out.old.turn.line.now ≡ Asked (requests.Undo n) }
     ensures turn { out.new.turn ≡ out.old.turn }
@@ -88,7 +88,7 @@ fn arrive<N: Named, C: Ledger, R: Wait>(
     desk: &Desk<'_, N, C>,
     clerk: &mut Clerk<C>,
     key: &Key,
-    out: &mut Words<'_, N>,
+    out: &mut LineAnswers<'_, N>,
 ) -> Result<bool, AllocError>
     requires { said_at out.old.turn.line.now ≡ Asked (requests.Arrive key.now) }
     ensures turn { out.new.turn ≡ out.old.turn }
@@ -108,7 +108,7 @@ fn sweep<N: Named, C: Ledger, R: Wait>(
     desk: &Desk<'_, N, C>,
     clerk: &mut Clerk<C>,
     alloc: Global,
-    out: &mut Words<'_, N>,
+    out: &mut LineAnswers<'_, N>,
 ) -> Result<bool, AllocError>
     requires { said_at out.old.turn.line.now ≡ Asked requests.Sweep }
     ensures turn { out.new.turn ≡ out.old.turn }
@@ -136,7 +136,7 @@ pub fn ask<N: Named, C: Ledger, T: Reports, R: Wait>(
     clerk: &mut Clerk<C>,
     lines: &Lines<'_, '_, T>,
     request: &Request,
-    out: &mut Words<'_, N>,
+    out: &mut LineAnswers<'_, N>,
 ) -> Result<bool, AllocError>
     requires fits { FitAnyBook T.fits lines.now.reports }
     requires line { said_at out.old.turn.line.now ≡ Asked request.now }

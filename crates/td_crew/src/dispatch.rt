@@ -11,7 +11,7 @@ ghost use Rattle.td_crew.specs.Replies.{MayReply, MayType, Says};
 
 use crate::answering::{ask, command};
 use crate::lines::Lines;
-use crate::words::Words;
+use crate::line_answers::LineAnswers;
 use std::alloc::AllocError;
 use std::sync::Wait;
 use std::sync::ledger::Ledger;
@@ -26,7 +26,7 @@ fn type_in<N: Named, C: Ledger, T: Reports, R: Wait>(
     clerk: &mut Clerk<C>,
     lines: &Lines<'_, '_, T>,
     line: &str,
-    out: &mut Words<'_, N>,
+    out: &mut LineAnswers<'_, N>,
 ) -> Result<bool, AllocError>
     requires line { out.old.turn.line.now ≡ line.now }
     requires typed { said_at line.now ≡ Typed }
@@ -54,7 +54,7 @@ pub fn answer<N: Named, C: Ledger, T: Reports, R: Wait>(
     clerk: &mut Clerk<C>,
     lines: &Lines<'_, '_, T>,
     line: &str,
-    out: &mut Words<'_, N>,
+    out: &mut LineAnswers<'_, N>,
 ) -> Result<bool, AllocError>
     requires fits { FitAnyBook T.fits lines.now.reports }
     requires archs { table lines.now.archs.now ≡ N.origin.stock.table }

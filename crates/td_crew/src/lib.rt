@@ -14,13 +14,13 @@ mod building;
 mod crew;
 mod dispatch;
 mod ends;
+mod line_answers;
 mod lines;
 mod running;
 mod shift;
 mod shown;
 mod telling;
 mod told;
-mod words;
 mod worker;
 
 pub use crew::{Crew, tell_script};

@@ -9,7 +9,7 @@ ghost use Rattle.td_crew.specs.Lines.{FitAnyBook};
 ghost use Rattle.td_crew.specs.Replies.{MayShow, Says, keys_at, request_of, shown_by};
 
 use crate::lines::Lines;
-use crate::words::Words;
+use crate::line_answers::LineAnswers;
 use std::alloc::{AllocError, Global};
 use std::sync::Wait;
 use std::sync::ledger::Ledger;
@@ -99,7 +99,7 @@ pub fn show<N: Named, C: Ledger, T: Reports, R: Wait>(
     clerk: &mut Clerk<C>,
     lines: &Lines<'_, '_, T>,
     view: View<'_>,
-    out: &mut Words<'_, N>,
+    out: &mut LineAnswers<'_, N>,
 ) -> Result<bool, AllocError>
     requires fits { FitAnyBook T.fits lines.now.reports }
     requires line { said_at out.old.turn.line.now ≡ Asked (request_of view) }

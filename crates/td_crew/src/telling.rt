@@ -3,7 +3,7 @@ ghost use Rattle.std.specs.Prelude.{◌≡◌, ◌+◌, ◌-◌, ◌<◌, ◌^�
 ghost use Rattle.td_desk.specs.Calls.{IsAtEnd};
 ghost use Rattle.td_crew.specs.CrewText.{HasRows};
 
-use crate::words::Words;
+use crate::line_answers::LineAnswers;
 use std::alloc::{AllocError, Global};
 use std::marker::PhantomData;
 use td_book::Book;
@@ -22,13 +22,13 @@ pub struct Telling<'s, N: Named> {
 
 impl<'s, N: Named> Telling<'s, N> {
     /// The answers to all lines, so many of which are refused.
-    pub fn of(words: Words<'s, N>, refused: u64) -> Telling<'s, N>
-        requires { words.turn.rest ≡ None }
-        ensures script { result.script ≡ words.entry.turn.script }
-        ensures text { result.told.text ≡ words.entry.text }
+    pub fn of(answers: LineAnswers<'s, N>, refused: u64) -> Telling<'s, N>
+        requires { answers.turn.rest ≡ None }
+        ensures script { result.script ≡ answers.entry.turn.script }
+        ensures text { result.told.text ≡ answers.entry.text }
         ensures refused { result.told.refused ≡ refused }
     {
-        let (script, text) = words.into_told();
+        let (script, text) = answers.into_told();
         let told = Told { text, refused };
         Telling {
             script,

@@ -8,7 +8,7 @@ ghost use Rattle.td_crew.specs.Lines.{FitAnyBook};
 use crate::dispatch::answer;
 use crate::lines::Lines;
 use crate::telling::Telling;
-use crate::words::Words;
+use crate::line_answers::LineAnswers;
 use std::alloc::AllocError;
 use std::sync::Wait;
 use std::sync::ledger::Ledger;
@@ -18,7 +18,7 @@ use td_script::Reports;
 // The answers so far, and how many of them are refusals.
 #[derive(Drop)]
 struct SoFar<'s, N: Named> {
-    words: Words<'s, N>,
+    answers: LineAnswers<'s, N>,
     refused: u64,
 }
 
@@ -34,18 +34,18 @@ fn add_line<N: Named, C: Ledger, T: Reports, R: Wait>(
     requires fits { FitAnyBook T.fits lines.now.reports }
     requires archs { table lines.now.archs.now ≡ N.origin.stock.table }
     requires room { told.old.refused < 2 ^ 63 }
-    requires line { told.old.words.turn.line.now ≡ line.now }
-    ensures turn { told.new.words.turn ≡ told.old.words.turn }
+    requires line { told.old.answers.turn.line.now ≡ line.now }
+    ensures turn { told.new.answers.turn ≡ told.old.answers.turn }
     ensures parts { clerk.new.parts ≡ clerk.old.parts }
     ensures few { OnOk result (told.new.refused ≤ told.old.refused + 1) }
     ensures replied { OnOk result (IsReplied N.table N.origin N.opened clerk.old.parts
         (setting_lent T.text N.origin.stock lines.now.suites.now lines.now.reports) line.now
-        (told_with (record { text = told.old.words.text; refused = told.old.refused })
+        (told_with (record { text = told.old.answers.text; refused = told.old.refused })
         clerk.old.receipts)
-        (told_with (record { text = told.new.words.text; refused = told.new.refused })
+        (told_with (record { text = told.new.answers.text; refused = told.new.refused })
         clerk.new.receipts)) }
 {
-    if answer(rt, desk, clerk, lines, line, &mut told.words)? {
+    if answer(rt, desk, clerk, lines, line, &mut told.answers)? {
         told.refused += 1;
     }
     Ok(())
@@ -71,11 +71,11 @@ pub fn tell_lines<'s, N: Named, C: Ledger, T: Reports, R: Wait>(
         lines.now.script.now clerk.new.receipts telling.told) }
 {
     let mut told = SoFar {
-        words: Words::new(lines.alloc, lines.script),
+        answers: LineAnswers::new(lines.alloc, lines.script),
         refused: 0,
     };
-    while let Some(line) = told.words.next() {
+    while let Some(line) = told.answers.next() {
         add_line(rt, desk, clerk, lines, line, &mut told)?;
     }
-    Ok(Telling::of(told.words, told.refused))
+    Ok(Telling::of(told.answers, told.refused))
 }

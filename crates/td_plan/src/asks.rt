@@ -340,7 +340,7 @@ pub fn asks_of<'a>(
 ) -> Result<Vec<Asks>, AllocError>
     ensures { IfOk result (λ all. AreAllAsks archive.now movers.now all.items) }
 {
-    let providers = Providers::of(alloc, archive, movers)?;
+    let providers = Providers::of(rt, alloc, archive, movers)?;
     asks_among(rt, alloc, archive, &providers, movers)
 }
 

@@ -1,13 +1,22 @@
-//! The packages of the sources that a plan moves, found by the names that they offer.
+//! The packages of the sources that a plan moves, found by the names that they offer. A name's length
+//! says in which of four shares it is, so that each share is made in a thread.
+ghost use Rattle.std.specs.Prelude.{◌≡◌, IfOk};
+ghost use Rattle.td_plan.specs.inner.Providing.{AreInShare, AreShares, share_of};
 
 use crate::movers::Mover;
+use rayon::prelude::*;
 use std::alloc::{AllocError, Global};
 use std::collections::HashMap;
 use std::collections::hash_map::Entry;
+use std::thread::Threads;
 use td_indices::Archive;
 
-/// How many names a source's packages have, with those that they provide: room is taken for so many.
-const NAMES: usize = 8;
+/// How many shares the names are in.
+const SHARES: usize = 4;
+
+/// How many names of a share a source's packages have, with those that they provide: room is taken
+/// for so many.
+const NAMES: usize = 2;
 
 /// A package under a name that it offers.
 #[derive(Clone, Copy)]
@@ -22,38 +31,52 @@ pub struct Provider {
     pub is_own: bool,
 }
 
-/// The packages of sources, by the names that they offer.
+/// The packages of sources, by those names that are in one share.
 #[derive(Drop)]
-pub struct Providers<'a> {
+pub struct Share<'a> {
     by_name: HashMap<&'a str, Vec<Provider>>,
 }
 
-impl<'a> Providers<'a> {
+/// The packages of sources, by the names that they offer: those of each share.
+#[derive(Drop)]
+pub struct Providers<'a> {
+    shares: Vec<Share<'a>>,
+}
+
+// The number of the share that a name is in.
+fn share_with(name: &str) -> usize
+    ensures { result ≡ share_of name.now }
+{
+    name.len() % SHARES
+}
+
+impl<'a> Share<'a> {
     ghost use Rattle.std.specs.Prelude.{◌≡◌, ◌<◌, ◌++◌, ◌∷◌, ◌||◌, [], Bool, List, ℕ};
     ghost use Rattle.std.specs.Prelude.{IfOk, OnOk, if◌then◌else◌, length};
     ghost use Rattle.std.specs.List.{list_any};
     ghost use Rattle.std.specs.Str.{bytes_eq};
     ghost use Rattle.td_plan.specs.declared.providers.Provider.{Provider};
     ghost use Rattle.td_plan.specs.inner.Providing.{
-      AreProviders,
+      AreInShare,
       passes_numbered,
       passes_of,
+      share_of,
+      shared_under,
       some_passes,
-      under,
     };
 
     // No packages yet, and room for `names` names.
-    fn with_capacity(alloc: Global, names: usize) -> Result<Providers<'a>, AllocError>
-        ensures { IfOk result (λ providers. (q : List ℕ) → under providers q ≡ []) }
+    fn with_capacity(alloc: Global, names: usize) -> Result<Share<'a>, AllocError>
+        ensures { IfOk result (λ share. (q : List ℕ) → shared_under share q ≡ []) }
     {
         let by_name = HashMap::with_capacity(alloc, names)?;
-        Ok(Providers { by_name })
+        Ok(Share { by_name })
     }
 
     fn push(&mut self, alloc: Global, name: &'a str, provider: Provider) -> Result<(), AllocError>
         ensures { OnOk result
-            ((q : List ℕ) → under self.new q ≡ (if bytes_eq q name.now then under self.old q
-            ++ provider ∷ [] else under self.old q)) }
+            ((q : List ℕ) → shared_under self.new q ≡ (if bytes_eq q name.now
+            then shared_under self.old q ++ provider ∷ [] else shared_under self.old q)) }
     {
         match self.by_name.entry(name)? {
             Entry::Occupied(entry) => entry.into_mut().push(provider)?,
@@ -66,17 +89,36 @@ impl<'a> Providers<'a> {
         Ok(())
     }
 
-    // Adds the package with a number under each of its names.
+    // Adds a package under a name, if the name is in the share with the number `share`.
+    fn push_shared(
+        &mut self,
+        alloc: Global,
+        share: usize,
+        name: &'a str,
+        provider: Provider,
+    ) -> Result<(), AllocError>
+        ensures { OnOk result ((q : List ℕ) → share_of q ≡ share
+            → shared_under self.new q ≡ (if bytes_eq q name.now
+            then shared_under self.old q ++ provider ∷ [] else shared_under self.old q)) }
+    {
+        if share_with(name) != share {
+            return Ok(());
+        }
+        self.push(alloc, name, provider)
+    }
+
+    // Adds the package with a number under each of its names in the share.
     fn push_package(
         &mut self,
         alloc: Global,
         archive: &Archive<'_, 'a>,
+        share: usize,
         number: usize,
         owner: usize,
     ) -> Result<(), AllocError>
         ensures { OnOk result
-            ((q : List ℕ) (test : Provider → Bool)
-            → list_any test (under self.new q) ≡ (list_any test (under self.old q)
+            ((q : List ℕ) (test : Provider → Bool) → share_of q ≡ share
+            → list_any test (shared_under self.new q) ≡ (list_any test (shared_under self.old q)
             || passes_numbered archive.now q test owner number)) }
     {
         let Some(binary) = archive.binary(number) else {
@@ -89,7 +131,7 @@ impl<'a> Providers<'a> {
                 home: binary.arch,
                 is_own: name == binary.name,
             };
-            self.push(alloc, name, provider)?;
+            self.push_shared(alloc, share, name, provider)?;
         }
         Ok(())
     }
@@ -99,17 +141,18 @@ impl<'a> Providers<'a> {
         &mut self,
         alloc: Global,
         archive: &Archive<'_, 'a>,
+        share: usize,
         source: &str,
         owner: usize,
     ) -> Result<(), AllocError>
         ensures { OnOk result
-            ((q : List ℕ) (test : Provider → Bool)
-            → list_any test (under self.new q) ≡ (list_any test (under self.old q)
+            ((q : List ℕ) (test : Provider → Bool) → share_of q ≡ share
+            → list_any test (shared_under self.new q) ≡ (list_any test (shared_under self.old q)
             || some_passes archive.now q test source.now owner)) }
     {
         let packages = archive.packages_of(source);
         for number in packages {
-            self.push_package(alloc, archive, *number, owner)?;
+            self.push_package(alloc, archive, share, *number, owner)?;
         }
         Ok(())
     }
@@ -119,43 +162,92 @@ impl<'a> Providers<'a> {
         &mut self,
         alloc: Global,
         archive: &Archive<'_, 'a>,
-        movers: &[Mover<'a>],
+        movers: &[Mover<'_>],
+        share: usize,
         owner: usize,
     ) -> Result<(), AllocError>
         requires { owner < length movers.now }
         ensures { OnOk result
-            ((q : List ℕ) (test : Provider → Bool)
-            → list_any test (under self.new q) ≡ (list_any test (under self.old q)
+            ((q : List ℕ) (test : Provider → Bool) → share_of q ≡ share
+            → list_any test (shared_under self.new q) ≡ (list_any test (shared_under self.old q)
             || passes_of archive.now movers.now q test owner)) }
     {
         let mover = &movers[owner];
         if !mover.moves() {
             return Ok(());
         }
-        self.push_source(alloc, archive, mover.source.name, owner)
+        self.push_source(alloc, archive, share, mover.source.name, owner)
     }
+
+    // The packages of the sources that move, by their names in the share with the number `share`.
+    fn of(
+        alloc: Global,
+        archive: &Archive<'_, 'a>,
+        movers: &[Mover<'_>],
+        share: usize,
+    ) -> Result<Share<'a>, AllocError>
+        ensures { IfOk result (AreInShare archive.now movers.now share) }
+    {
+        let mut found = Share::with_capacity(alloc, movers.len().saturating_mul(NAMES))?;
+        for owner in 0..movers.len() {
+            found.push_mover(alloc, archive, movers, share, owner)?;
+        }
+        Ok(found)
+    }
+
+    // The packages under a name.
+    fn of_name(&self, name: &str) -> &[Provider]
+        ensures { result.now ≡ shared_under self.now name.now }
+    {
+        match self.by_name.get(name) {
+            Some(found) => found.as_slice(),
+            None => &[],
+        }
+    }
+}
+
+// The packages of the sources that move, by their names; each thread makes some of the shares.
+fn shares_of<'a>(
+    rt: &(impl Threads + Sync),
+    alloc: Global,
+    archive: &Archive<'_, 'a>,
+    movers: &[Mover<'_>],
+) -> Result<Vec<Share<'a>>, AllocError>
+    ensures { IfOk result (λ shares. AreShares archive.now movers.now shares.items) }
+{
+    (0..SHARES)
+        .into_par_iter()
+        .map(
+            |share: usize| -> Result<Share<'_>, AllocError>
+                ensures { IfOk result (AreInShare archive.entry.now movers.entry.now share) }
+            { Share::of(alloc, archive, movers, share) },
+        )
+        .collect::<Result<Vec<Share<'a>>, AllocError>>(rt, alloc)?
+}
+
+impl<'a> Providers<'a> {
+    ghost use Rattle.std.specs.Prelude.{◌≡◌, IfOk};
+    ghost use Rattle.td_plan.specs.inner.Providing.{AreProviders, under};
 
     /// The packages of the sources that move.
     pub fn of(
+        rt: &(impl Threads + Sync),
         alloc: Global,
         archive: &Archive<'_, 'a>,
-        movers: &[Mover<'a>],
+        movers: &[Mover<'_>],
     ) -> Result<Providers<'a>, AllocError>
         ensures { IfOk result (λ providers. AreProviders archive.now movers.now providers) }
     {
-        let mut providers = Providers::with_capacity(alloc, movers.len().saturating_mul(NAMES))?;
-        for owner in 0..movers.len() {
-            providers.push_mover(alloc, archive, movers, owner)?;
-        }
-        Ok(providers)
+        let shares = shares_of(rt, alloc, archive, movers)?;
+        Ok(Providers { shares })
     }
 
     /// The packages under a name.
     pub fn of_name(&self, name: &str) -> &[Provider]
         ensures { result.now ≡ under self.now name.now }
     {
-        match self.by_name.get(name) {
-            Some(found) => found.as_slice(),
+        match self.shares.get(share_with(name)) {
+            Some(share) => share.of_name(name),
             None => &[],
         }
     }

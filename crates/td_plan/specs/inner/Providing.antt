@@ -1,5 +1,6 @@
 -- What is found under a name: the packages of the sources that move and offer it.
-use Rattle.std.specs.Prelude.{◌≡◌, ℕ, Bool, false, ◌&&◌, List, [], length, slice_get}
+use Rattle.std.specs.Prelude.{◌≡◌, ◌<◌, ℕ, ◌%◌, Bool, false, ◌&&◌, List, [], Some, length}
+use Rattle.std.specs.Prelude.{slice_get}
 use Rattle.std.specs.Global.{Vec}
 use Rattle.std.specs.HashMap.{get_by}
 use Rattle.std.specs.List.{list_any, range_with_len}
@@ -11,12 +12,22 @@ use Rattle.td_indices.specs.OfferedNames.{offered_names}
 use Rattle.td_plan.specs.declared.movers.Mover.{Mover}
 use Rattle.td_plan.specs.declared.providers.Provider.{Provider}
 use Rattle.td_plan.specs.declared.providers.Providers.{Providers}
+use Rattle.td_plan.specs.declared.providers.Share.{Share}
 use Rattle.td_plan.specs.inner.Movers.{has_moving_motion, mover_name}
+
+-- the number of the share that a name is in: what is left of its length when fours are taken away
+abbrev pub share_of : List ℕ → ℕ
+share_of name = length name % 4
+
+-- the packages that are found under a name in a share
+abbrev pub shared_under : Share → List ℕ → List Provider
+shared_under share name = option_map_or (λ (found : Vec Provider). found.items)
+    (get_by (λ k. bytes_eq name k.now) share.by_name) []
 
 -- the packages that are found under a name
 abbrev pub under : Providers → List ℕ → List Provider
-under providers name = option_map_or (λ (found : Vec Provider). found.items)
-    (get_by (λ k. bytes_eq name k.now) providers.by_name) []
+under providers name = option_map_or (λ (share : Share). shared_under share name)
+    (slice_get providers.shares.items (share_of name)) []
 
 -- the package with a number, of a source with a number, under a name that it offers
 abbrev pub provider : ℕ → ℕ → KeptBinary → List ℕ → Provider
@@ -46,6 +57,17 @@ some_passes a q test source owner =
 abbrev pub passes_of : Contents → List Mover → List ℕ → (Provider → Bool) → ℕ → Bool
 passes_of a ms q test owner = option_map_or (λ m.
     has_moving_motion m && some_passes a q test (mover_name m) owner) (slice_get ms owner) false
+
+-- what is found under each name in a share are the packages of the sources that move and offer it
+abbrev pub AreInShare : Contents → List Mover → ℕ → Share → Type 0
+AreInShare a ms share found = (q : List ℕ) (test : Provider → Bool) → share_of q ≡ share
+    → list_any test (shared_under found q)
+    ≡ list_any (passes_of a ms q test) (range_with_len 0 (length ms))
+
+-- these are all shares
+abbrev pub AreShares : Contents → List Mover → List Share → Type 0
+AreShares a ms shares = (k : ℕ) → k < 4
+    → (share : Share) × (slice_get shares k ≡ Some share) × AreInShare a ms k share
 
 -- what is found under each name are the packages of the sources that move and offer it
 abbrev pub AreProviders : Contents → List Mover → Providers → Type 0

@@ -11,9 +11,9 @@ abbrev pub invariant-loop-line : goal.invariant-loop-line
 invariant-loop-line g l =
     IsSoFar g.N.Named.table g.N.Named.origin g.N.Named.opened l.fn.clerk.parts
     (setting_lent g.T.Reports.text g.N.Named.origin.stock l.fn.lines.suites.now l.fn.lines.reports)
-    l.fn.lines.script.now l.clerk.receipts (record { text = l.told.words.text; refused = l.told.refused })
-    l.told.words.turn.rest
-    × (l.clerk.parts ≡ l.fn.clerk.parts) × (l.told.words.turn.script ≡ l.fn.lines.script)
+    l.fn.lines.script.now l.clerk.receipts (record { text = l.told.answers.text; refused = l.told.refused })
+    l.told.answers.turn.rest
+    × (l.clerk.parts ≡ l.fn.clerk.parts) × (l.told.answers.turn.script ≡ l.fn.lines.script)
 
 abbrev pub decreases-loop-line : goal.decreases-loop-line
-decreases-loop-line g l = left_len l.told.words.turn.rest
+decreases-loop-line g l = left_len l.told.answers.turn.rest

@@ -2,7 +2,7 @@
 use Rattle.std.proofs.Common.{rules}
 use Rattle.std.proofs.lemmas.Result.{IfOk-weaker}
 use Rattle.td_crew.proofs.Replied.{taken_out}
-use Rattle.td_crew.proofs.words.Words.shown.Goals as goal
+use Rattle.td_crew.proofs.line_answers.LineAnswers.shown.Goals as goal
 
 pub returns-clause-ok : goal.returns-clause-ok
 returns-clause-ok g c =

@@ -1,7 +1,7 @@
--- `Providers::push`: what it answers.
+-- `Share::push`: what it answers.
 use Rattle.std.proofs.Common.{arith}
 use Rattle.std.proofs.lemmas.Grind.{text_groups}
-use Rattle.td_plan.proofs.providers.Providers.push.Goals as goal
+use Rattle.td_plan.proofs.providers.Share.push.Goals as goal
 
 pub returns-in_ok-push-in-Vacant : goal.returns-in_ok-push-in-Vacant
 returns-in_ok-push-in-Vacant c = λ q. grind (arith, text_groups)

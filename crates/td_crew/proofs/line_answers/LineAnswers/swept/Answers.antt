@@ -1,7 +1,7 @@
 -- What is put is what was seen.
 use Rattle.std.proofs.Common.{refl, rules}
 use Rattle.td_crew.proofs.Replied.{taken_out}
-use Rattle.td_crew.proofs.words.Words.swept.Goals as goal
+use Rattle.td_crew.proofs.line_answers.LineAnswers.swept.Goals as goal
 
 pub returns-clause-ok : goal.returns-clause-ok
 returns-clause-ok g c =

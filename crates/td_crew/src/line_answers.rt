@@ -31,7 +31,7 @@ use td_wbread::LineFault;
 
 /// The line of a script that is being answered, and what follows it.
 #[derive(Clone, Copy)]
-pub struct Turn<'s> {
+pub struct LineTurn<'s> {
     script: &'s str,
     line: &'s str,
     rest: Option<&'s str>,
@@ -40,22 +40,22 @@ pub struct Turn<'s> {
 /// The answers so far, and whose turn it is. Each of these methods appends the answer to the line
 /// whose turn it is, and says whether that is a refusal.
 #[derive(Drop)]
-pub struct Words<'s, N: Named> {
+pub struct LineAnswers<'s, N: Named> {
     text: String,
-    turn: Turn<'s>,
+    turn: LineTurn<'s>,
     of: PhantomData<N>,
 }
 
-impl<'s, N: Named> Words<'s, N> {
+impl<'s, N: Named> LineAnswers<'s, N> {
     /// No answer yet: the first line comes next.
-    pub fn new(alloc: Global, script: &'s str) -> Words<'s, N>
+    pub fn new(alloc: Global, script: &'s str) -> LineAnswers<'s, N>
         ensures text { string_bytes result.text ≡ [] }
         ensures script { result.turn.script ≡ script.entry }
         ensures rest { result.turn.rest ≡ Some script.entry }
     {
-        Words {
+        LineAnswers {
             text: String::new(alloc),
-            turn: Turn {
+            turn: LineTurn {
                 script,
                 line: "",
                 rest: Some(script),
@@ -81,7 +81,7 @@ impl<'s, N: Named> Words<'s, N> {
         };
         let (line, rest) = next_line(left);
         let script = self.turn.script;
-        self.turn = Turn { script, line, rest };
+        self.turn = LineTurn { script, line, rest };
         Some(line)
     }
 
