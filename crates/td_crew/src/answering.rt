@@ -17,9 +17,9 @@ ghost use Rattle.td_crew.specs.Lines.{FitAnyBook};
 ghost use Rattle.td_crew.specs.Replies.{MayAnswer, MayArrive, MayCommand, MaySweep};
 ghost use Rattle.td_crew.specs.Replies.{MayUndo, Says};
 
+use crate::line_answers::LineAnswers;
 use crate::lines::Lines;
 use crate::shown::{SweptLook, View, show};
-use crate::line_answers::LineAnswers;
 use std::alloc::{AllocError, Global};
 use std::sync::Wait;
 use std::sync::ledger::Ledger;

@@ -81,7 +81,7 @@ fn tell_all<'s, N: Named, C: Ledger, T: Reports, R: Wait>(
 
 // The answers to the lines while builders work on threads of their own, which are joined then. The
 // desk is shut, whatever came of it.
-fn tell_beside<'s, N: Named + Send + Sync, C: Ledger + Send + Sync, T: Reports>(
+fn tell_with_builders<'s, N: Named + Send + Sync, C: Ledger + Send + Sync, T: Reports>(
     rt: &(impl Threads + Wait + Sync),
     shift: &Shift<'_, '_, N, C>,
     clerk: Clerk<C>,
@@ -154,7 +154,7 @@ fn tell_in_shift<'s, N: Named + Send + Sync, C: Ledger + Send + Sync, T: Reports
 {
     let (workers, homes) = hire_workers::<N>(lines.alloc, seats)?;
     let shift = Shift::new(desk, homes);
-    match tell_beside(rt, &shift, clerk, workers, builds, lines) {
+    match tell_with_builders(rt, &shift, clerk, workers, builds, lines) {
         Ok((mut told, clerk, _shut)) => {
             let homes = shift.end()?;
             told.miss(&homes);

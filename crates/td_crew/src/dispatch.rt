@@ -10,8 +10,8 @@ ghost use Rattle.td_crew.specs.Lines.{FitAnyBook};
 ghost use Rattle.td_crew.specs.Replies.{MayReply, MayType, Says};
 
 use crate::answering::{ask, command};
-use crate::lines::Lines;
 use crate::line_answers::LineAnswers;
+use crate::lines::Lines;
 use std::alloc::AllocError;
 use std::sync::Wait;
 use std::sync::ledger::Ledger;

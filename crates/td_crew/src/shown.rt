@@ -8,8 +8,8 @@ ghost use Rattle.td_desk.specs.Calls.{IsMetBy};
 ghost use Rattle.td_crew.specs.Lines.{FitAnyBook};
 ghost use Rattle.td_crew.specs.Replies.{MayShow, Says, keys_at, request_of, shown_by};
 
-use crate::lines::Lines;
 use crate::line_answers::LineAnswers;
+use crate::lines::Lines;
 use std::alloc::{AllocError, Global};
 use std::sync::Wait;
 use std::sync::ledger::Ledger;

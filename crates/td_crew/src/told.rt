@@ -6,9 +6,9 @@ ghost use Rattle.td_crew.specs.CrewText.{AreAnswered, IsReplied, told_with};
 ghost use Rattle.td_crew.specs.Lines.{FitAnyBook};
 
 use crate::dispatch::answer;
+use crate::line_answers::LineAnswers;
 use crate::lines::Lines;
 use crate::telling::Telling;
-use crate::line_answers::LineAnswers;
 use std::alloc::AllocError;
 use std::sync::Wait;
 use std::sync::ledger::Ledger;

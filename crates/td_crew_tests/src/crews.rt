@@ -141,7 +141,7 @@ foo/i386 Built 0 1
 ";
 
 // Whether a builder built while the script was answered.
-fn is_built_beside(
+fn is_built_meanwhile(
     rt: &(impl Threads + Wait + Abort + Sync),
     alloc: Global,
     inputs: &Inputs,
@@ -160,7 +160,7 @@ fn is_built_beside(
 fn a_builder_builds_while_a_script_is_answered(rt: HostRuntime) {
     let inputs = made(&rt, inputs_over(rt.alloc(), BUILT_ON_I386, SOURCES, 2));
     let script = made(&rt, long_script(rt.alloc()));
-    let is_one = (0..100).any(|_| is_built_beside(&rt, rt.alloc(), &inputs, script.as_str()));
+    let is_one = (0..100).any(|_| is_built_meanwhile(&rt, rt.alloc(), &inputs, script.as_str()));
     drop(script);
     drop(inputs);
     assert!(rt; is_one);

@@ -273,7 +273,7 @@ fn call_all<N: Named + Send + Sync, C: Ledger + Send + Sync, R: Threads + Wait +
 }
 
 // The calls of the clerks while each builder is on a thread.
-fn call_beside<N: Named + Send + Sync, C: Ledger + Send + Sync, R: Threads + Wait + Sync>(
+fn call_among_builders<N: Named + Send + Sync, C: Ledger + Send + Sync, R: Threads + Wait + Sync>(
     rt: &R,
     alloc: Global,
     desk: &Desk<'static, N, C>,
@@ -320,7 +320,7 @@ pub(crate) fn crew<N: Named + Send + Sync, C: Ledger + Send + Sync, R: Threads +
     let alloc = people.alloc;
     let builders = mem::replace(&mut people.builders, Vec::new(alloc));
     let tally = Tally::new();
-    call_beside(
+    call_among_builders(
         rt,
         alloc,
         desk,

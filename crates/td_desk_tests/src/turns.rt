@@ -302,7 +302,7 @@ fn work_of<N: Named, C: Ledger, R: Wait>(
 }
 
 // The answer to the last builder's work while the last clerk makes these calls.
-fn work_beside<N: Named, C: Ledger, R: Wait>(
+fn work_during_calls<N: Named, C: Ledger, R: Wait>(
     rt: &R,
     desk: &Desk<'static, N, C>,
     people: &mut People<N, C>,
@@ -358,7 +358,7 @@ pub(crate) fn work_in_turn<N: Named, C: Ledger, R: Wait>(
 {
     let alloc = people.alloc;
     let told = Mutex::new(String::new(alloc));
-    let end = work_beside(rt, desk, people, calls, &told);
+    let end = work_during_calls(rt, desk, people, calls, &told);
     let told = told.into_inner();
     Ok(format!(in alloc; "{told}{end:?}")?)
 }

@@ -30,7 +30,7 @@ use crate::checking::check;
 use crate::ending::{Ended, Ending};
 use crate::explaining::finish;
 use crate::planning::plan;
-use crate::running::{run_alone, run_beside};
+use crate::running::{run_alone, run_with_builders};
 use crate::simulation::read_and_play;
 use crate::texts::Texts;
 use crate::track_files::TrackPaths;
@@ -195,7 +195,7 @@ pub fn answer_alone<T: Texts + Sync, R: Reader, W: Writer, E: Writer>(
 }
 
 // Does the run with builders that was asked for.
-fn do_beside<T: Texts + Sync, R: Reader, W: Writer>(
+fn do_with_builders<T: Texts + Sync, R: Reader, W: Writer>(
     rt: &(impl Threads + Wait + Sync),
     alloc: Global,
     request: &Request,
@@ -216,11 +216,11 @@ fn do_beside<T: Texts + Sync, R: Reader, W: Writer>(
     ensures short { IfSome result.input (λ kept. length (string_bytes kept) ≤ input_limit) }
     ensures input { LeavesInput request.now (R.remaining reader.old) (R.remaining reader.new) }
 {
-    run_beside(rt, alloc, texts, run, reader, output).alone()
+    run_with_builders(rt, alloc, texts, run, reader, output).alone()
 }
 
 // Does the run with builders that was asked for, and answers the program's status.
-fn answer_beside<T: Texts + Sync, R: Reader, W: Writer, E: Writer>(
+fn answer_with_builders<T: Texts + Sync, R: Reader, W: Writer, E: Writer>(
     rt: &(impl Threads + Wait + Sync),
     alloc: Global,
     call: &Call,
@@ -241,7 +241,7 @@ fn answer_beside<T: Texts + Sync, R: Reader, W: Writer, E: Writer>(
     ensures input { LeavesInput call.now.request
         (R.remaining reader.old) (R.remaining reader.new) }
 {
-    let done = do_beside(rt, alloc, &call.request, run, texts, reader, output);
+    let done = do_with_builders(rt, alloc, &call.request, run, texts, reader, output);
     finish(alloc, call.explained, &done, &call.request, texts, faults)
 }
 
@@ -271,7 +271,7 @@ fn act<T: Texts + Sync, R: Reader, W: Writer, E: Writer>(
     match asked {
         Ok(call) => match crew_of(&call.request) {
             None => answer_alone(rt, alloc, &call, texts, reader, output, faults),
-            Some(run) => answer_beside(rt, alloc, &call, run, texts, reader, output, faults),
+            Some(run) => answer_with_builders(rt, alloc, &call, run, texts, reader, output, faults),
         },
         Err(fault) => tell_fault(&fault, faults),
     }

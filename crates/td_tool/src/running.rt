@@ -124,7 +124,7 @@ fn play_alone<R: Reader, W: Writer>(
 }
 
 // How the reader's script ends, over its inputs, while builders build.
-fn play_beside<R: Reader, W: Writer>(
+fn play_with_builders<R: Reader, W: Writer>(
     rt: &(impl Threads + Wait + Sync),
     alloc: Global,
     inputs: &Inputs,
@@ -167,7 +167,7 @@ pub fn run_alone<T: Texts + Sync, R: Reader, W: Writer>(
 }
 
 /// Answers the reader's script with as many builders as are asked for, and may wait for them.
-pub fn run_beside<T: Texts + Sync, R: Reader, W: Writer>(
+pub fn run_with_builders<T: Texts + Sync, R: Reader, W: Writer>(
     rt: &(impl Threads + Wait + Sync),
     alloc: Global,
     texts: &T,
@@ -187,7 +187,7 @@ pub fn run_beside<T: Texts + Sync, R: Reader, W: Writer>(
         Ok(inputs) => inputs,
         Err(unread) => return unread,
     };
-    let ending = play_beside(rt, alloc, &inputs, reader, output);
+    let ending = play_with_builders(rt, alloc, &inputs, reader, output);
     drop(inputs);
     ending
 }

@@ -1,10 +1,10 @@
--- `play_beside`: what it answers.
+-- `play_with_builders`: what it answers.
 use Rattle.std.proofs.Common.{◌≡◌, false, subst, sym, ne_eqb}
 use Rattle.td_tool.specs.UnreadFiles.{tells_of_unread_file}
 use Rattle.td_tool.proofs.Dues.{crew_due}
 use Rattle.td_tool.proofs.FileEndings.{of_crew}
 use Rattle.td_tool.proofs.SureRuns.{plays_crew}
-use Rattle.td_tool.proofs.running.play_beside.Goals as goal
+use Rattle.td_tool.proofs.running.play_with_builders.Goals as goal
 
 pub returns-clause-plays : goal.returns-clause-plays
 returns-clause-plays g c = λ builders some x suite are.
