@@ -141,9 +141,14 @@ def long_texts(runs):
     found = runs.end(words_of("check", {"packages": path}, "--explain"))
     runs.compare("packages of 1000000 bytes without a colon, explained", found, 2,
                  stderr=said_of("packages", "Stanza", field))
-    most = "input: wanted: standard input of at most 1048576 bytes\n"
-    found = runs.end(["simulate", "--explain"], runs.put("too-long", bytes(1_048_577)))
-    runs.compare("an input too long, explained", found, 2, stderr=TOO_LONG + most.encode())
+    too_long, no_text = runs.put("too-long", bytes(1_048_577)), runs.put("no-text", b"\xff")
+    most = b"input: wanted: standard input of at most 1048576 bytes\n"
+    text = said_of("input", "NotText", "input: wanted: a text in UTF-8")
+    for words in (["simulate"], words_of("run", {}), words_of("run", {}, "--builders", "1")):
+        found = runs.end([*words, "--explain"], too_long)
+        runs.compare(f"an input of {words[0]} too long, explained", found, 2, stderr=TOO_LONG + most)
+        found = runs.end([*words, "--explain"], no_text)
+        runs.compare(f"an input of {words[0]} that is no text, explained", found, 2, stderr=text)
 
 
 def packed(runs):
@@ -160,7 +165,7 @@ def packed(runs):
         why = "wanted: a text in UTF-8"
         if what:
             why = f'"{path}" is packed by {what}; {why}; unpack it first'
-        for role in ("archs", "packages", "sources", "tracker"):
+        for role in cases.READ_BY["run"]:
             said = said_of(role, "NotText", f"{role}: {why}")
             by_each(runs, f"{role} packed by {what}", role, path, said)
 
@@ -172,6 +177,7 @@ def unread(role, path, why=None):
 
 
 NOWHERE = "isn't there; wanted: the path of a file that is there"
+FOLDER = "is a folder; wanted: a file, and no folder"
 
 
 def not_read(runs):
@@ -182,7 +188,7 @@ def not_read(runs):
     os.chmod(runs.put("secret", "amd64 linux amd64\n"), 0)
     os.symlink("loop", f"{runs.room}/loop")
     reasons = {
-        runs.room: "is a folder; wanted: a file, and no folder",
+        runs.room: FOLDER,
         "nowhere": NOWHERE,
         "secret/in": NOWHERE,
         "endless": "is too long; wanted: a file of at most 1073741824 bytes",
@@ -205,22 +211,16 @@ def not_read(runs):
 
 
 def missing(runs):
-    """Files that aren't there, or are no text, explained."""
-    for role in ("packages", "sources"):
-        for command in COMMANDS:
-            found = runs.end(words_of(command, {role: "nowhere"}, "--explain"))
-            runs.compare(f"{command} without {role}, explained", found, 5,
-                         stderr=unread(role, "nowhere", NOWHERE))
+    """Files that aren't there, are folders, or are no text, explained: each of each subcommand."""
     no_text = runs.put("no-text", b"\xff")
-    for role in ("state", "tracker", "outcomes", "journal"):
-        builders = ["--builders", "1"] if role == "outcomes" else []
-        found = runs.end(words_of("run", {role: "nowhere"}, "--explain", *builders))
-        runs.compare(f"a {role} that isn't there, explained", found, 5,
-                     stderr=unread(role, "nowhere", NOWHERE))
-        if role in ("journal", "outcomes"):
-            found = runs.end(words_of("run", {role: no_text}, "--explain", *builders))
+    for command in COMMANDS:
+        for role in cases.READ_BY[command]:
+            for path, why in (("nowhere", NOWHERE), (runs.room, FOLDER)):
+                found = runs.end(words_of(command, {role: path}, "--explain"))
+                runs.compare(f"{role} of {command}, {why}, explained", found, 5, stderr=unread(role, path, why))
+            found = runs.end(words_of(command, {role: no_text}, "--explain"))
             said = said_of(role, "NotText", f"{role}: wanted: a text in UTF-8")
-            runs.compare(f"a {role} that is no text, explained", found, 2, stderr=said)
+            runs.compare(f"{role} of {command} is no text, explained", found, 2, stderr=said)
 
 
 def two_faults(runs, command, roles, first, second, fit):
