@@ -1,6 +1,7 @@
 -- The commands of a source: they rebuild its due rows under its number, and let those wait that are
 -- to.
-use Rattle.std.proofs.Common.{◌≡◌, ℕ, ◌<◌, ◌==◌, ◌&&◌, ◌||◌, eqb, nat_lt, Bool, true, false, List, []}
+use Rattle.std.proofs.Common.{◌≡◌, ℕ, ◌<◌, ◌==◌, ◌&&◌, ◌||◌, eqb, nat_lt, Bool, true, false, List}
+use Rattle.std.proofs.Common.{[]}
 use Rattle.std.proofs.Common.{length, map, Option, Some, None, refl, sym, ap, subst, ◌∙◌}
 use Rattle.std.proofs.Common.{inl, inr}
 use Rattle.std.specs.Prelude.{Ok, codes, filter, if◌then◌else◌, nat_le, unwrap_or}
@@ -126,7 +127,8 @@ module _ (p : Premises) (sound : AreSound p) (s : KeptSource) (has : Contains p.
         let d = (due_rows_are_exact p s place).0 due in
         let same : d.row ≡ row = some_is d.row row (sym d.there ∙ at) in
         let among : Contains (filter (is_ready p s) (places p)) place =
-        filter-again (is_ready p s) (places p) place (place-among (length p.archive.table) place low)
+        filter-again (is_ready p s) (places p) place
+        (place-among (length p.archive.table) place low)
         (and-right due) in
         let number = (numbers_are_least (is_ready p s) p s).0.rebuilt row.number
         (has_again (numbers_at p s) (filter (is_ready p s) (places p)) place row.number among

@@ -168,7 +168,8 @@ module _ (words : Words) (p : Premises) (x : Placing) (sound : AreSound p)
           (none (λ t there own.
           let bad : None ≡ Some t = sym named ∙ ap (source_named p.archive) (sym own)
           ∙ named-by p sound t (due-kept t there).0 in cc))
-      by (Some s) named = subst (Goes p (plan_commands words x p) k row) (sym (ap (end k row) named))
+      by (Some s) named =
+          subst (Goes p (plan_commands words x p) k row) (sym (ap (end k row) named))
           (elim (cases_Bool (has_due p s)) [
             | inl some ↦
                 let kept = named-kept p k.source s named in

@@ -1,5 +1,5 @@
-//! The packages of the sources that a plan moves, found by the names that they offer. A name's length
-//! says in which of four shares it is, so that each share is made in a thread.
+//! The packages of the sources that a plan moves, found by the names that they offer. A name's
+//! length says in which of four shares it is, so that each share is made in a thread.
 ghost use Rattle.std.specs.Prelude.{◌≡◌, IfOk};
 ghost use Rattle.td_plan.specs.inner.Providing.{AreInShare, AreShares, share_of};
 

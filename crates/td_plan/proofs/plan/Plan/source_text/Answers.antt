@@ -9,7 +9,8 @@ use Rattle.td_plan.proofs.plan.Plan.source_text.Goals as goal
 
 pub returns : goal.returns
 returns c = λ p m is at moving.
-    let lines = source_lines (seen_words c.args.words.now) (placing_in c.args.self.now) p (kept_of m)
+    let lines =
+    source_lines (seen_words c.args.words.now) (placing_in c.args.self.now) p (kept_of m)
     in
     c.in_ok-put_source.ensures.ok p m is at moving
     ∙ ap (λ (t : List ℕ). t ++ text_of lines) c.new-text.ensures.bytes

@@ -9,5 +9,6 @@ use Rattle.td_plan.proofs.providers.Share.push_source.Given as goal
 abbrev pub invariant-loop-number : goal.invariant-loop-number
 invariant-loop-number l = (q : List ℕ) (test : Provider → Bool)
     → share_of q ≡ l.share → list_any test (shared_under l.self q)
-    ≡ (list_any test (shared_under l.fn.self q) || list_any (passes_numbered l.archive q test l.owner)
+    ≡ (list_any test (shared_under l.fn.self q)
+    || list_any (passes_numbered l.archive q test l.owner)
     (take l.number-index l.packages))
