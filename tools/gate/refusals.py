@@ -170,6 +170,21 @@ def packed(runs):
             by_each(runs, f"{role} packed by {what}", role, path, said)
 
 
+def odd_paths(runs):
+    """A packed file behind a link, five bytes of which xz has six, and paths that aren't plain."""
+    runs.put("packed", gzip.compress(AMD64.encode()))
+    os.symlink("packed", f"{runs.room}/packed-link")
+    why = "wanted: a text in UTF-8"
+    for path, more in (("packed-link", f'"packed-link" is packed by gzip; {why}; unpack it first'),
+                       (runs.put("five", b"\xfd7zXZ"), why)):
+        found = runs.end(words_of("check", {"archs": path}, "--explain"))
+        runs.compare(f"{path} as a table", found, 2, stderr=said_of("archs", "NotText", f"archs: {more}"))
+    for name in ("a table", "\u00fc"):
+        path = runs.put(name, cases.read(WAVES["archs"]))
+        found = runs.end(words_of("check", {"archs": path}))
+        runs.compare(f"a file with the name {name}", found, 0, cases.Case("check", "waves").read("stdout"))
+
+
 def unread(role, path, why=None):
     """What is said of a file that can't be read, and of why, if that is known."""
     more = [f'{role}: "{path}" {why}'] if why else []
@@ -204,10 +219,19 @@ def not_read(runs):
     if not os.path.exists("/proc/self/mem"):
         print("note: /proc isn't mounted: a file whose reads fail is left out")
         del reasons["/proc/self/mem"]
+    os.symlink("there", f"{runs.room}/dangling")
+    os.symlink(".", f"{runs.room}/folder-link")
+    reasons |= {"dangling": NOWHERE, "folder-link": FOLDER}
     for path, why in reasons.items():
         changed = {"archs": path, "packages": "nowhere", "sources": "nowhere"}
         found = runs.end(words_of("check", changed, "--explain"))
         runs.compare(f"{path[:20]}, not read and explained", found, 5, stderr=unread("archs", path, why))
+    for path in ("endless", "0" * 300):
+        for command in COMMANDS:
+            for role in cases.READ_BY[command]:
+                found = runs.end(words_of(command, {role: path}, "--explain"))
+                runs.compare(f"{path[:20]} as {role} of {command}, explained", found, 5,
+                             stderr=unread(role, path, reasons[path]))
 
 
 def missing(runs):
@@ -306,6 +330,6 @@ def strange_rows(runs):
 
 
 def run_all(runs):
-    for group in (made, packed, journals, long_texts, not_read, missing, first_of_two,
+    for group in (made, packed, odd_paths, journals, long_texts, not_read, missing, first_of_two,
                   of_the_wrong_kind, strange_rows):
         group(runs)
