@@ -124,6 +124,8 @@ def journals(runs):
         found = runs.end([*case.words(), "--explain"], case.input())
         said = case.read("stderr") + f"journal: {why}\n".encode()
         runs.compare(f"the journal of {name}, explained", found, 2, stderr=said)
+        found = runs.end([*case.words(), "--explain", "--builders", "1"], case.input())
+        runs.compare(f"the journal of {name} beside a builder", found, 2, stderr=said)
 
 
 def long_texts(runs):
