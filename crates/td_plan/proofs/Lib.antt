@@ -15,6 +15,7 @@ pub mod LeftRows
 pub mod Joins
 pub mod Flags
 pub mod SetTo
+pub mod Shared
 pub mod Counting
 pub mod Ways
 pub mod Reached

@@ -11,7 +11,7 @@ ghost use Rattle.td_plan.specs.inner.Providing.{AreProviders};
 ghost use Rattle.td_plan.specs.inner.Searching.{IsGraph};
 
 use crate::movers::{LEAST, Mover};
-use crate::providers::{Provider, Providers};
+use crate::providers::{Provider, Providers, Share};
 use rayon::prelude::*;
 use std::alloc::{AllocError, Global};
 use std::thread::Threads;
@@ -56,6 +56,7 @@ impl Asker<'_, '_, '_> {
       asks_at as asks_there,
       asks_one,
       asks_other,
+      asks_shared,
       asks_some,
     };
     ghost use Rattle.td_plan.specs.inner.Providing.{under};
@@ -140,6 +141,26 @@ impl Asker<'_, '_, '_> {
         Ok(())
     }
 
+    // Adds what an alternative names of a share, except what the source itself offers.
+    fn push_shared(
+        &self,
+        asks: &mut Asks,
+        alternative: &Alternative<'_>,
+        share: &Share<'_>,
+    ) -> Result<(), AllocError>
+        requires { length asks.old.items ≡ length self.now.archive.now.table }
+        ensures len { length asks.new.items ≡ length asks.old.items }
+        ensures asked { OnOk result ((place : ℕ) (test : Ask → Bool) → place < length asks.old.items
+            → list_any test (asks_there asks.new.items place)
+            ≡ (list_any test (asks_there asks.old.items place)
+            || asks_shared self.now place test (asked alternative.now) share.now)) }
+    {
+        for found in share.of_name(alternative.name) {
+            self.push_other(asks, alternative, found)?;
+        }
+        Ok(())
+    }
+
     // Adds what an alternative names, except what the source itself offers.
     fn push_alternative(
         &self,
@@ -153,8 +174,8 @@ impl Asker<'_, '_, '_> {
             ≡ (list_any test (asks_there asks.old.items place)
             || asks_some self.now place test (asked alternative.now))) }
     {
-        for found in self.providers.of_name(alternative.name) {
-            self.push_other(asks, alternative, found)?;
+        for share in self.providers.shares() {
+            self.push_shared(asks, alternative, share)?;
         }
         Ok(())
     }

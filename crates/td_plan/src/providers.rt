@@ -1,6 +1,6 @@
-//! The packages of the sources that a plan moves, found by the names that they offer. A name's
-//! length says in which of four shares it is, so that each share is made in a thread.
-ghost use Rattle.std.specs.Prelude.{◌≡◌, IfOk};
+//! The packages of the sources that a plan moves, found by the names that they offer. The sources
+//! are in four shares, each of which is made in a thread.
+ghost use Rattle.std.specs.Prelude.{◌≡◌, ℕ, IfOk};
 ghost use Rattle.td_plan.specs.inner.Providing.{AreInShare, AreShares, share_of};
 
 use crate::movers::Mover;
@@ -11,11 +11,11 @@ use std::collections::hash_map::Entry;
 use std::thread::Threads;
 use td_indices::Archive;
 
-/// How many shares the names are in.
+/// How many shares the sources are in.
 const SHARES: usize = 4;
 
-/// How many names of a share a source's packages have, with those that they provide: room is taken
-/// for so many.
+/// How many names the packages of as many sources as there are shares have, with those that they
+/// provide: room is taken for so many in each share.
 const NAMES: usize = 2;
 
 /// A package under a name that it offers.
@@ -31,7 +31,7 @@ pub struct Provider {
     pub is_own: bool,
 }
 
-/// The packages of sources, by those names that are in one share.
+/// The packages of the sources in a share, by the names that they offer.
 #[derive(Drop)]
 pub struct Share<'a> {
     by_name: HashMap<&'a str, Vec<Provider>>,
@@ -43,11 +43,11 @@ pub struct Providers<'a> {
     shares: Vec<Share<'a>>,
 }
 
-// The number of the share that a name is in.
-fn share_with(name: &str) -> usize
-    ensures { result ≡ share_of name.now }
+// The number of the share that the source with a number is in.
+fn share_with(owner: usize) -> usize
+    ensures { result ≡ share_of owner }
 {
-    name.len() % SHARES
+    owner % SHARES
 }
 
 impl<'a> Share<'a> {
@@ -60,7 +60,7 @@ impl<'a> Share<'a> {
       AreInShare,
       passes_numbered,
       passes_of,
-      share_of,
+      shared_passes,
       shared_under,
       some_passes,
     };
@@ -89,35 +89,16 @@ impl<'a> Share<'a> {
         Ok(())
     }
 
-    // Adds a package under a name, if the name is in the share with the number `share`.
-    fn push_shared(
-        &mut self,
-        alloc: Global,
-        share: usize,
-        name: &'a str,
-        provider: Provider,
-    ) -> Result<(), AllocError>
-        ensures { OnOk result ((q : List ℕ) → share_of q ≡ share
-            → shared_under self.new q ≡ (if bytes_eq q name.now
-            then shared_under self.old q ++ provider ∷ [] else shared_under self.old q)) }
-    {
-        if share_with(name) != share {
-            return Ok(());
-        }
-        self.push(alloc, name, provider)
-    }
-
-    // Adds the package with a number under each of its names in the share.
+    // Adds the package with a number under each of its names.
     fn push_package(
         &mut self,
         alloc: Global,
         archive: &Archive<'_, 'a>,
-        share: usize,
         number: usize,
         owner: usize,
     ) -> Result<(), AllocError>
         ensures { OnOk result
-            ((q : List ℕ) (test : Provider → Bool) → share_of q ≡ share
+            ((q : List ℕ) (test : Provider → Bool)
             → list_any test (shared_under self.new q) ≡ (list_any test (shared_under self.old q)
             || passes_numbered archive.now q test owner number)) }
     {
@@ -131,7 +112,7 @@ impl<'a> Share<'a> {
                 home: binary.arch,
                 is_own: name == binary.name,
             };
-            self.push_shared(alloc, share, name, provider)?;
+            self.push(alloc, name, provider)?;
         }
         Ok(())
     }
@@ -141,18 +122,17 @@ impl<'a> Share<'a> {
         &mut self,
         alloc: Global,
         archive: &Archive<'_, 'a>,
-        share: usize,
         source: &str,
         owner: usize,
     ) -> Result<(), AllocError>
         ensures { OnOk result
-            ((q : List ℕ) (test : Provider → Bool) → share_of q ≡ share
+            ((q : List ℕ) (test : Provider → Bool)
             → list_any test (shared_under self.new q) ≡ (list_any test (shared_under self.old q)
             || some_passes archive.now q test source.now owner)) }
     {
         let packages = archive.packages_of(source);
         for number in packages {
-            self.push_package(alloc, archive, share, *number, owner)?;
+            self.push_package(alloc, archive, *number, owner)?;
         }
         Ok(())
     }
@@ -163,12 +143,11 @@ impl<'a> Share<'a> {
         alloc: Global,
         archive: &Archive<'_, 'a>,
         movers: &[Mover<'_>],
-        share: usize,
         owner: usize,
     ) -> Result<(), AllocError>
         requires { owner < length movers.now }
         ensures { OnOk result
-            ((q : List ℕ) (test : Provider → Bool) → share_of q ≡ share
+            ((q : List ℕ) (test : Provider → Bool)
             → list_any test (shared_under self.new q) ≡ (list_any test (shared_under self.old q)
             || passes_of archive.now movers.now q test owner)) }
     {
@@ -176,10 +155,31 @@ impl<'a> Share<'a> {
         if !mover.moves() {
             return Ok(());
         }
-        self.push_source(alloc, archive, share, mover.source.name, owner)
+        self.push_source(alloc, archive, mover.source.name, owner)
     }
 
-    // The packages of the sources that move, by their names in the share with the number `share`.
+    // Adds the packages of the source with a number, if it is in the share and moves.
+    fn push_shared(
+        &mut self,
+        alloc: Global,
+        archive: &Archive<'_, 'a>,
+        movers: &[Mover<'_>],
+        share: usize,
+        owner: usize,
+    ) -> Result<(), AllocError>
+        requires { owner < length movers.now }
+        ensures { OnOk result
+            ((q : List ℕ) (test : Provider → Bool)
+            → list_any test (shared_under self.new q) ≡ (list_any test (shared_under self.old q)
+            || shared_passes archive.now movers.now q test share owner)) }
+    {
+        if share_with(owner) != share {
+            return Ok(());
+        }
+        self.push_mover(alloc, archive, movers, owner)
+    }
+
+    // The packages of the sources that move, of those in the share with the number `share`.
     fn of(
         alloc: Global,
         archive: &Archive<'_, 'a>,
@@ -190,13 +190,13 @@ impl<'a> Share<'a> {
     {
         let mut found = Share::with_capacity(alloc, movers.len().saturating_mul(NAMES))?;
         for owner in 0..movers.len() {
-            found.push_mover(alloc, archive, movers, share, owner)?;
+            found.push_shared(alloc, archive, movers, share, owner)?;
         }
         Ok(found)
     }
 
-    // The packages under a name.
-    fn of_name(&self, name: &str) -> &[Provider]
+    /// The packages under a name.
+    pub fn of_name(&self, name: &str) -> &[Provider]
         ensures { result.now ≡ shared_under self.now name.now }
     {
         match self.by_name.get(name) {
@@ -206,7 +206,7 @@ impl<'a> Share<'a> {
     }
 }
 
-// The packages of the sources that move, by their names; each thread makes some of the shares.
+// The packages of the sources that move; each thread makes some of the shares.
 fn shares_of<'a>(
     rt: &(impl Threads + Sync),
     alloc: Global,
@@ -227,7 +227,7 @@ fn shares_of<'a>(
 
 impl<'a> Providers<'a> {
     ghost use Rattle.std.specs.Prelude.{◌≡◌, IfOk};
-    ghost use Rattle.td_plan.specs.inner.Providing.{AreProviders, under};
+    ghost use Rattle.td_plan.specs.inner.Providing.{AreProviders};
 
     /// The packages of the sources that move.
     pub fn of(
@@ -242,13 +242,10 @@ impl<'a> Providers<'a> {
         Ok(Providers { shares })
     }
 
-    /// The packages under a name.
-    pub fn of_name(&self, name: &str) -> &[Provider]
-        ensures { result.now ≡ under self.now name.now }
+    /// The shares, each of which has packages of its own.
+    pub fn shares(&self) -> &[Share<'a>]
+        ensures { result.now ≡ self.now.shares.items }
     {
-        match self.shares.get(share_with(name)) {
-            Some(share) => share.of_name(name),
-            None => &[],
-        }
+        self.shares.as_slice()
     }
 }

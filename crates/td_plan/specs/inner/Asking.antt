@@ -9,7 +9,8 @@ use Rattle.td_waves.specs.BuildsOn.{asked_first, asked_for_arch, fits_at, some_a
 use Rattle.td_plan.specs.declared.asks.Ask.{Ask}
 use Rattle.td_plan.specs.declared.asks.Asker.{Asker}
 use Rattle.td_plan.specs.declared.providers.Provider.{Provider}
-use Rattle.td_plan.specs.inner.Providing.{under}
+use Rattle.td_plan.specs.declared.providers.Share.{Share}
+use Rattle.td_plan.specs.inner.Providing.{shared_under, under}
 
 -- what is asked for at a place
 abbrev pub asks_at : List (Vec Ask) → ℕ → List Ask
@@ -27,6 +28,11 @@ asks_one asker place test x p =
 -- at a place an alternative asks for a package of another source that was found, and passes a test
 abbrev pub asks_other : Asker → ℕ → (Ask → Bool) → Asked → Provider → Bool
 asks_other asker place test x p = not (p.owner == asker.mover) && asks_one asker place test x p
+
+-- at a place an alternative asks for some package of another source in a share that passes a test
+abbrev pub asks_shared : Asker → ℕ → (Ask → Bool) → Asked → Share → Bool
+asks_shared asker place test x share =
+    list_any (asks_other asker place test x) (shared_under share x.name)
 
 -- at a place an alternative asks for some package of another source that passes a test
 abbrev pub asks_some : Asker → ℕ → (Ask → Bool) → Asked → Bool

@@ -4,13 +4,12 @@ use Rattle.std.specs.List.{list_any}
 use Rattle.std.specs.Str.{bytes_eq}
 use Rattle.td_indices.specs.OfferedNames.{names_left}
 use Rattle.td_plan.specs.declared.providers.Provider.{Provider}
-use Rattle.td_plan.specs.inner.Providing.{passes_numbered, share_of, shared_under}
+use Rattle.td_plan.specs.inner.Providing.{passes_numbered, shared_under}
 use Rattle.td_plan.proofs.providers.Share.push_package.Given as goal
 
 -- what is left decides
 abbrev pub invariant-loop-name : goal.invariant-loop-name
 invariant-loop-name l = (q : List ℕ) (test : Provider → Bool)
-    → share_of q ≡ l.share
     → (list_any test (shared_under l.self q) || list_any (λ (name : List ℕ). bytes_eq q name
     && test (record {
       binary = l.number;
