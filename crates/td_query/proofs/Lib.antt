@@ -1,5 +1,6 @@
 -- What the proofs of this crate share: a file a thing.
 pub mod Runs
+pub mod FoundAtoms
 pub mod Skips
 pub mod Patterns
 pub mod Chains

@@ -25,3 +25,4 @@ pub mod QuerySpelling
 pub mod TrackerSpelling
 pub mod SpellingLaws
 pub mod FaultPlaces
+pub mod Atoms

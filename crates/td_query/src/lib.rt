@@ -11,13 +11,17 @@
 //! A row's status is what `specs/Statuses.antt` says: `Tracker::status` evaluates the queries on
 //! the row's stanzas, `Marks` does so once for each stanza that an archive keeps and is asked row
 //! by row.
+//! `tracker_atoms` lists a tracker's texts and patterns, and `count_atoms` says how many stanzas
+//! each finds: `specs/Atoms.antt`.
 //! `specs/QueryLaws.antt` and `specs/StatusLaws.antt` say what queries and statuses mean.
 //! The place of a wrong byte is the first that no continuation allows: `specs/FaultPlaces.antt`.
 #![tactic(auto)]
 
 mod affected;
 mod atom;
+mod atoms;
 mod compiling;
+mod finding;
 mod laws;
 mod mark;
 mod marking;
@@ -35,6 +39,8 @@ mod tracker_reading;
 mod truth;
 mod unescape;
 
+pub use atoms::{Atom, pattern_text, tracker_atoms};
+pub use finding::{Found, count_atoms};
 pub use laws::{
     atoms_are_read_as_written, comments_are_skipped, fields_match_by_their_values,
     keys_say_what_is_read, patterns_end_at_their_slash, queries_are_as_in_logic,

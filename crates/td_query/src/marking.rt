@@ -22,8 +22,8 @@ use std::thread::Threads;
 use td_indices::{Archive, IndexFile};
 use td_stanza::Stanza;
 
-// The stanza of the binary package, or of the source, with a number.
-fn kept_stanza<'x, 'a>(
+/// The stanza of the binary package, or of the source, with a number.
+pub fn kept_stanza<'x, 'a>(
     archive: &'x Archive<'_, 'a>,
     file: IndexFile,
     number: usize,
