@@ -23,5 +23,6 @@ pub use explaining::{explain, explain_path, explain_relation};
 pub use flaw::{ArchFlaw, arch_flaw};
 pub use laws::{arch_flaws_are_exact, places_are_found};
 pub use packing::{Packing, packing_of};
+pub use shown::{MAX_SHOWN, put_shown};
 pub use spot::Place;
 pub use stray::{Stray, stray_at};

@@ -1,0 +1,14 @@
+-- `before`: what it answers.
+use Rattle.std.proofs.Common.{take}
+use Rattle.td_lines.proofs.Cuts.{part_is, whole_is}
+use Rattle.td_lines.proofs.pieces.before.Goals as goal
+
+pub returns-in-Ok : goal.returns-in-Ok
+returns-in-Ok c =
+    part_is (take c.args.place c.args.line.now) c.args.line.now c.halves.result.0.now
+    c.in-Ok.text.now c.halves.ensures.front c.in-Ok.ensures.cases.0 c.in-Ok.ensures.cases.1
+
+pub returns-in-Err : goal.returns-in-Err
+returns-in-Err c =
+    whole_is (take c.args.place c.args.line.now) c.args.line.now c.halves.result.0.now
+    c.halves.ensures.front c.in-Err.ensures.cases.0
