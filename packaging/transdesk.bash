@@ -16,19 +16,21 @@ _transdesk() {
         fi
         return
         ;;
-    check) options="--archs --packages --sources --explain --help" ;;
+    check) options="--archs --packages --sources --folder --details --tracker --explain --help" ;;
     track)
-        options="--archs --packages --sources --tracker --state --only --summary --chunk"
+        options="--archs --packages --sources --folder --tracker --state --only --summary --chunk"
         options="$options --explain --help"
         ;;
-    waves) options="--archs --packages --sources --tracker --steps --why --explain --help" ;;
+    waves)
+        options="--archs --packages --sources --folder --tracker --steps --why --explain --help"
+        ;;
     plan)
-        options="--archs --packages --sources --tracker --message --state --suite"
+        options="--archs --packages --sources --folder --tracker --message --state --suite"
         options="$options --explain --help"
         ;;
     run)
-        options="--archs --packages --sources --state --tracker --suite --builders --outcomes"
-        options="$options --journal --explain --help"
+        options="--archs --packages --sources --folder --state --tracker --suite --builders"
+        options="$options --outcomes --journal --explain --help"
         ;;
     simulate) ;;
     *) return ;;
@@ -40,6 +42,10 @@ _transdesk() {
         before=${COMP_WORDS[COMP_CWORD - 2]}
     fi
     case $before in
+    --folder)
+        compopt -o filenames 2> /dev/null
+        mapfile -t COMPREPLY < <(compgen -d -- "$word")
+        ;;
     --archs | --packages | --sources | --tracker | --state | --outcomes | --journal)
         compopt -o filenames 2> /dev/null
         mapfile -t COMPREPLY < <(compgen -f -- "$word")

@@ -16,12 +16,14 @@ for subcommand in check track waves plan run
     complete -c transdesk -n "__fish_seen_subcommand_from $subcommand" -l archs -r -F -d 'The table of architectures'
     complete -c transdesk -n "__fish_seen_subcommand_from $subcommand" -l packages -r -F -d 'The Packages index'
     complete -c transdesk -n "__fish_seen_subcommand_from $subcommand" -l sources -r -F -d 'The Sources index'
+    complete -c transdesk -n "__fish_seen_subcommand_from $subcommand" -l folder -x -a '(__fish_complete_directories)' -d 'A folder that has the other files'
 end
-for subcommand in track waves plan run
+for subcommand in check track waves plan run
     complete -c transdesk -n "__fish_seen_subcommand_from $subcommand" -l tracker -r -F -d 'What the transition affects'
 end
 complete -c transdesk -n '__fish_seen_subcommand_from track plan run' -l state -r -F -d 'Rows in the place of others'
 complete -c transdesk -n '__fish_seen_subcommand_from simulate check track waves plan run' -l explain -d 'Say where a refused text is wrong'
+complete -c transdesk -n '__fish_seen_subcommand_from check' -l details -d 'Print a line for each architecture, and warnings'
 complete -c transdesk -n '__fish_seen_subcommand_from track' -l only -x -a 'good bad partial unknown bad,partial' -d 'Statuses of the rows that are printed'
 complete -c transdesk -n '__fish_seen_subcommand_from track' -l summary -d 'Print no rows'
 complete -c transdesk -n '__fish_seen_subcommand_from waves' -l steps -d 'List by steps'

@@ -17,6 +17,7 @@ _transdesk() {
         '--archs=[the table of architectures]:file:_files'
         '--packages=[the Packages index]:file:_files'
         '--sources=[the Sources index]:file:_files'
+        '--folder=[a folder that has the other files]:folder:_files -/'
     )
     explain=('--explain[say where a refused text is wrong]')
     tracker=('--tracker=[what the transition affects]:file:_files')
@@ -30,7 +31,10 @@ _transdesk() {
     case $words[1] in
         help) (( CURRENT == 2 )) && _describe subcommand subcommands ;;
         simulate) _arguments $explain '--help[tell of the subcommand]' ;;
-        check) _arguments $indices $explain '--help[tell of the subcommand]' ;;
+        check)
+            _arguments $indices '--details[print a line for each architecture, and warnings]' \
+                $tracker $explain '--help[tell of the subcommand]'
+            ;;
         track)
             _arguments $indices $tracker '--state=[rows in the place of others]:file:_files' \
                 '--only=[statuses of the rows that are printed]:statuses:(good bad partial unknown bad,partial)' \

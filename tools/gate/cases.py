@@ -15,11 +15,11 @@ OF_ARCHIVE = (*INDICES, "tracker")
 OF_CASE = ("state", "journal", "outcomes")
 # The files of a case that have the value of an option, up to a last newline, and those that stand for
 # an option without one.
-VALUES, FLAGS = ("builders", "message", "only", "suite"), ("summary", "steps", "why")
+VALUES, FLAGS = ("builders", "message", "only", "suite"), ("details", "summary", "steps", "why")
 # What each subcommand reads, in this order.
 READ_BY = {
     "simulate": (),
-    "check": INDICES,
+    "check": (*INDICES, "tracker"),
     "track": (*INDICES, "state", "tracker"),
     "waves": (*INDICES, "tracker"),
     "plan": (*INDICES, "state", "tracker"),
@@ -88,7 +88,8 @@ class Case:
     def files(self):
         """The files of the run, by their roles."""
         name = self.read("archive").decode().strip() or "foobar"
-        shared = archive(name, OF_ARCHIVE)
+        # (of a check, only the case's own tracker: it goes with details)
+        shared = archive(name, INDICES if self.command == "check" else OF_ARCHIVE)
         own = {role: self.path(role) for role in (*OF_ARCHIVE, *OF_CASE) if self.has(role)}
         found = shared | own
         return {role: found[role] for role in READ_BY[self.command] if role in found}

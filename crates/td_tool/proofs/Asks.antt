@@ -1,19 +1,18 @@
 -- What is answered to words, by what they were read as.
-use Rattle.std.proofs.Common.{◌≡◌, ℕ, Bool, List, Option, Result, Ok, Err, IfOk}
-use Rattle.std.proofs.Common.{IfErr, IsOkAnd, MatchResult, String, Vec, map}
+use Rattle.std.proofs.Common.{◌≡◌, ℕ, Bool, List, Option, Some, Result, Ok, Err, IfOk}
+use Rattle.std.proofs.Common.{IfErr, IsOkAnd, MatchResult, None, String, Vec, map}
 use Rattle.std.proofs.Common.{string_bytes}
-use Rattle.std.specs.Prelude.{codes}
 use Rattle.std.proofs.Common.{true, false, inl, inr, refl, sym, ap, subst, ◌∙◌}
 use Rattle.std.specs.declared.alloc.Global.{Global}
 use Rattle.std.specs.Io.KnownBytes.{Keeps}
 use Rattle.td_bytes.specs.declared.text.TextFault.{TextFault}
 use Rattle.td_report.specs.Transition.{IsReportOf}
-use Rattle.td_words.specs.Asked.{Asks, IsUsage, RequestWords, builders_said, check_of}
-use Rattle.td_words.specs.Asked.{plan_of, report_of, request_words, run_of, simulation, track_said}
-use Rattle.td_words.specs.Asked.{waves_of}
-use Rattle.td_words.specs.CommandLine.{AskFor, HasFiles, HasTracker, RunWords, TrackWords}
-use Rattle.td_words.specs.CommandLine.{WavesWords, is_explained, options_of}
-use Rattle.td_words.specs.PlanWords.{HasMessage, PlanWords, line_words_said}
+use Rattle.td_words.specs.Asked.{RequestWords, check_of, plan_of, report_of, request_words}
+use Rattle.td_words.specs.Asked.{run_of, simulation, waves_of}
+use Rattle.td_words.specs.CheckWords.{CheckWords}
+use Rattle.td_words.specs.CommandLine.{RunWords, TrackWords, WavesWords, is_explained, options_of}
+use Rattle.td_words.specs.PlanWords.{PlanWords}
+use Rattle.td_tool.specs.FolderFiles.{AskFound, Causes, TellsWhich}
 use Rattle.td_words.specs.declared.request.Call.{Call}
 use Rattle.td_words.specs.declared.request.Request.{Request}
 use Rattle.td_words.specs.declared.request.Request.TheVariants.{Simulate, Check, Track, Waves}
@@ -23,16 +22,16 @@ use Rattle.td_words.specs.declared.request.WordsFault.TheVariants as words_fault
 use Rattle.td_tool.specs.declared.ending.Ending.{Ending}
 use Rattle.td_tool.specs.declared.ending.Ending.TheVariants.{NoMemory}
 use Rattle.td_inputs.specs.declared.role.Role.{Role}
-use Rattle.td_tool.specs.Checks.{Checks, files_of}
 use Rattle.td_tool.specs.Ends.{Ends}
-use Rattle.td_tool.specs.Explained.{Given, archive_paths, known_at, known_input, plan_paths}
+use Rattle.td_tool.specs.Explained.{Given, check_paths, known_at, known_input, plan_paths}
 use Rattle.td_tool.specs.Explained.{run_paths}
 use Rattle.td_tool.specs.Explained.{track_paths, waves_paths}
 use Rattle.td_tool.specs.Program.{IsTold, LeavesInput, OnlyIfAsked, RanFor, are_explained}
+use Rattle.td_tool.specs.CheckEnds.{CheckEnds, CheckEndsWith}
 use Rattle.td_tool.specs.Program.{files_asked, plan_files, waves_files, words_asked}
-use Rattle.td_tool.specs.Runs.{EndsRun, run_files_asked}
+use Rattle.td_tool.specs.Runs.{AreNotes, EndsRun, run_files_asked}
 use Rattle.td_tool.specs.Tracks.{EndsSo, IsPlanWith, waves_says}
-use Rattle.td_tool.specs.Ran.{Ran}
+use Rattle.td_tool.specs.Ran.{NoNotes, Ran}
 use Rattle.td_tool.specs.Streams.{DueTo}
 use Rattle.td_tool.proofs.Explanations.{line_alone}
 use Rattle.td_tool.proofs.Stops.{kept_only}
@@ -67,47 +66,51 @@ module _ (words : List (List ℕ)) (known left : Option (List ℕ))
 
   -- what was asked for has run, and is explained if that was asked for; or memory ran out for the
   -- words
-  answered : (Did : Ending → Type 0) (texts : Role → Given) (Is : Request → Type 0)
+  answered : (Did : Ending → Type 0) (Noted : List ℕ → Type 0) (texts : Role → Given)
+      (Is : Request → Type 0)
       (r : Result Call WordsFault) (explained : Bool)
       → ((q : Request) (b : Bool)
       → RanFor q b known left bytes can_fail reads writes old new before said status → Is q
-      → Ran Did b texts before said status)
+      → Ran Did Noted b texts before said status)
       → (Keeps old new → Did NoMemory) → HasRun r → WasTold r → HasFlag explained r
       → MatchResult r (λ c. Is c.request) (λ e. e ≡ words_fault.NoMemory)
-      → Ran Did explained texts before said status
-  answered Did texts Is (Ok c) explained runs lacks ran told flag is =
-      subst (λ b. Ran Did b texts before said status) flag (runs c.request c.explained ran is)
-  answered Did texts Is (Err f) explained runs lacks ran told flag is =
+      → Ran Did Noted explained texts before said status
+  answered Did Noted texts Is (Ok c) explained runs lacks ran told flag is =
+      subst (λ b. Ran Did Noted b texts before said status) flag (runs c.request c.explained ran is)
+  answered Did Noted texts Is (Err f) explained runs lacks ran told flag is =
       let lacking = subst (λ x. IsTold x old new before said status) is told in
       record {
         ending = NoMemory;
+        notes = None;
         answered = lacking.tells.answered;
         ends = lacks lacking.kept;
-        says = line_alone explained texts NoMemory before said lacking.tells.line;
+        noted = tt;
+        says = line_alone explained texts None NoMemory before said lacking.tells.line;
       }
 
   -- what ran for a request ran for its words
   abbrev RanWords : RequestWords → Bool → Type 0
   RanWords simulation b =
-      Ran (DueTo reads writes (Ends known old new)) b (known_input known) before said status
-  RanWords (check_of archs packages sources) b =
-      Ran (DueTo reads writes (Checks (files_of bytes can_fail archs packages sources) old new)) b
-      (known_at bytes (archive_paths archs packages sources)) before said status
+      Ran (DueTo reads writes (Ends known old new)) NoNotes b (known_input known) before said status
+  RanWords (check_of w) b =
+      Ran (DueTo reads writes (CheckEnds bytes can_fail w old new)) NoNotes b
+      (known_at bytes (check_paths w)) before said status
   RanWords (report_of w) b =
       Ran (DueTo reads writes
-      (EndsSo (IsReportOf w.shown) (files_asked bytes can_fail w) old new)) b
+      (EndsSo (IsReportOf w.shown) (files_asked bytes can_fail w) old new)) NoNotes b
       (known_at bytes (track_paths w)) before said status
   RanWords (waves_of w) b =
       Ran (DueTo reads writes
-      (EndsSo (waves_says w.form) (waves_files bytes can_fail w) old new)) b
+      (EndsSo (waves_says w.form) (waves_files bytes can_fail w) old new)) NoNotes b
       (known_at bytes (waves_paths w)) before said status
   RanWords (plan_of w) b =
       Ran (DueTo reads writes
-      (EndsSo (IsPlanWith (words_asked w)) (plan_files bytes can_fail w) old new)) b
+      (EndsSo (IsPlanWith (words_asked w)) (plan_files bytes can_fail w) old new)) NoNotes b
       (known_at bytes (plan_paths w)) before said status
   RanWords (run_of w) b =
       Ran (DueTo reads writes
-      (EndsRun (run_files_asked bytes can_fail w) w.suite known left old new)) b
+      (EndsRun (run_files_asked bytes can_fail w) w.suite known left old new))
+      (AreNotes (run_files_asked bytes can_fail w) w.suite known) b
       (known_at bytes (run_paths w)) before said status
 
   ran_words : (q : Request) (b : Bool)
@@ -129,39 +132,45 @@ module _ (words : List (List ℕ)) (known left : Option (List ℕ))
   pub simulated : (r : Result Call WordsFault) (explained : Bool) → HasRun r → WasTold r
       → HasFlag explained r
       → MatchResult r (λ c. c.request ≡ Simulate) (λ e. e ≡ words_fault.NoMemory)
-      → Ran (DueTo reads writes (Ends known old new)) explained (known_input known) before said
+      → Ran (DueTo reads writes (Ends known old new)) NoNotes explained (known_input known) before
+      said
       status
   simulated r explained =
-      answered (DueTo reads writes (Ends known old new)) (known_input known)
+      answered (DueTo reads writes (Ends known old new)) NoNotes (known_input known)
       (λ q. q ≡ Simulate) r explained
       (λ q b ran is. subst (λ x.
       RanFor x b known left bytes can_fail reads writes old new before said status) is ran)
       (λ kept. (record { says = kept; only = kept_only known old new kept }, tt))
 
-  pub checked : (r : Result Call WordsFault) (explained : Bool) (archs packages sources : List ℕ)
-      → HasRun r → WasTold r → HasFlag explained r
-      → MatchResult r (λ c. request_words c.request ≡ check_of archs packages sources)
-      (λ e. e ≡ words_fault.NoMemory)
-      → Ran (DueTo reads writes (Checks (files_of bytes can_fail archs packages sources) old new))
-      explained (known_at bytes (archive_paths archs packages sources)) before said status
-  checked r explained archs packages sources =
+  -- memory ran out for the words of a check
+  check_lacks : (tracker : Option (List ℕ)) (w : CheckWords) → Keeps old new
+      → CheckEndsWith tracker bytes can_fail w old new NoMemory
+  check_lacks None w kept = record { says = kept; only = λ c is. kept }
+  check_lacks (Some path) w kept =
+      record { says = inl (refl, kept); only = λ x are readable. kept }
+
+  pub checked : (r : Result Call WordsFault) (explained : Bool) (w : CheckWords) → HasRun r
+      → WasTold r → HasFlag explained r
+      → MatchResult r (λ c. request_words c.request ≡ check_of w) (λ e. e ≡ words_fault.NoMemory)
+      → Ran (DueTo reads writes (CheckEnds bytes can_fail w old new))
+      NoNotes explained (known_at bytes (check_paths w)) before said status
+  checked r explained w =
       answered
-      (DueTo reads writes (Checks (files_of bytes can_fail archs packages sources) old new))
-      (known_at bytes (archive_paths archs packages sources))
-      (λ q. request_words q ≡ check_of archs packages sources) r
-      explained (ran_same (check_of archs packages sources))
-      (λ kept. (record { says = kept; only = λ c is. kept }, tt))
+      (DueTo reads writes (CheckEnds bytes can_fail w old new))
+      NoNotes (known_at bytes (check_paths w)) (λ q. request_words q ≡ check_of w) r
+      explained (ran_same (check_of w))
+      (λ kept. (check_lacks w.tracker w kept, tt))
 
   pub tracked : (r : Result Call WordsFault) (explained : Bool) (w : TrackWords) → HasRun r
       → WasTold r → HasFlag explained r
       → MatchResult r (λ c. request_words c.request ≡ report_of w) (λ e. e ≡ words_fault.NoMemory)
       → Ran (DueTo reads writes
       (EndsSo (IsReportOf w.shown) (files_asked bytes can_fail w) old new))
-      explained (known_at bytes (track_paths w)) before said status
+      NoNotes explained (known_at bytes (track_paths w)) before said status
   tracked r explained w =
       answered (DueTo reads writes
       (EndsSo (IsReportOf w.shown) (files_asked bytes can_fail w) old new))
-      (known_at bytes (track_paths w)) (λ q. request_words q ≡ report_of w) r explained
+      NoNotes (known_at bytes (track_paths w)) (λ q. request_words q ≡ report_of w) r explained
       (ran_same (report_of w))
       (λ kept. (record { says = inl (refl, kept); only = λ x are readable. kept }, tt))
 
@@ -170,11 +179,11 @@ module _ (words : List (List ℕ)) (known left : Option (List ℕ))
       → MatchResult r (λ c. request_words c.request ≡ waves_of w) (λ e. e ≡ words_fault.NoMemory)
       → Ran (DueTo reads writes
       (EndsSo (waves_says w.form) (waves_files bytes can_fail w) old new))
-      explained (known_at bytes (waves_paths w)) before said status
+      NoNotes explained (known_at bytes (waves_paths w)) before said status
   waved r explained w =
       answered (DueTo reads writes
       (EndsSo (waves_says w.form) (waves_files bytes can_fail w) old new))
-      (known_at bytes (waves_paths w)) (λ q. request_words q ≡ waves_of w) r explained
+      NoNotes (known_at bytes (waves_paths w)) (λ q. request_words q ≡ waves_of w) r explained
       (ran_same (waves_of w))
       (λ kept. (record { says = inl (refl, kept); only = λ x are readable. kept }, tt))
 
@@ -183,11 +192,11 @@ module _ (words : List (List ℕ)) (known left : Option (List ℕ))
       → MatchResult r (λ c. request_words c.request ≡ plan_of w) (λ e. e ≡ words_fault.NoMemory)
       → Ran (DueTo reads writes
       (EndsSo (IsPlanWith (words_asked w)) (plan_files bytes can_fail w) old new))
-      explained (known_at bytes (plan_paths w)) before said status
+      NoNotes explained (known_at bytes (plan_paths w)) before said status
   planned r explained w =
       answered (DueTo reads writes
       (EndsSo (IsPlanWith (words_asked w)) (plan_files bytes can_fail w) old new))
-      (known_at bytes (plan_paths w)) (λ q. request_words q ≡ plan_of w) r explained
+      NoNotes (known_at bytes (plan_paths w)) (λ q. request_words q ≡ plan_of w) r explained
       (ran_same (plan_of w))
       (λ kept. (record { says = inl (refl, kept); only = λ x are readable. kept }, tt))
 
@@ -196,10 +205,12 @@ module _ (words : List (List ℕ)) (known left : Option (List ℕ))
       → MatchResult r (λ c. request_words c.request ≡ run_of w) (λ e. e ≡ words_fault.NoMemory)
       → Ran (DueTo reads writes
       (EndsRun (run_files_asked bytes can_fail w) w.suite known left old new))
+      (AreNotes (run_files_asked bytes can_fail w) w.suite known)
       explained (known_at bytes (run_paths w)) before said status
   ran_script r explained w =
       answered (DueTo reads writes
       (EndsRun (run_files_asked bytes can_fail w) w.suite known left old new))
+      (AreNotes (run_files_asked bytes can_fail w) w.suite known)
       (known_at bytes (run_paths w)) (λ q. request_words q ≡ run_of w) r explained
       (ran_same (run_of w))
       (λ kept. (
@@ -211,22 +222,13 @@ module _ (words : List (List ℕ)) (known left : Option (List ℕ))
         tt,
       ))
 
-  pub only_asked : (r : Result Call WordsFault) → HasRun r → WasTold r
+  pub only_asked : (can_be : Causes) (r : Result Call WordsFault) → HasRun r → WasTold r
       → HasFlag (is_explained (options_of words)) r
       → MatchResult r (λ c. LeavesInput c.request known left) (λ f. Keeps known left)
-      → IfOk r (λ c. Asks words (request_words c.request))
-      → ((archs packages sources tracker : List ℕ) → AskFor (codes "track") words
-      → HasTracker (options_of words) archs packages sources tracker
-      → IfErr r (λ e. IsUsage e (track_said (options_of words))))
-      → ((archs packages sources tracker message : List ℕ) → AskFor (codes "plan") words
-      → HasTracker (options_of words) archs packages sources tracker
-      → HasMessage (options_of words) message
-      → IfErr r (λ e. IsUsage e (line_words_said message)))
-      → ((archs packages sources : List ℕ) → AskFor (codes "run") words
-      → HasFiles (options_of words) archs packages sources
-      → IfErr r (λ e. IsUsage e builders_said))
-      → OnlyIfAsked words known left bytes can_fail reads writes old new before said status
-  only_asked (Ok c) ran told flag input asks chunk plan builders =
+      → IfOk r (λ c. AskFound can_be words (request_words c.request))
+      → IfErr r (TellsWhich can_be words)
+      → OnlyIfAsked can_be words known left bytes can_fail reads writes old new before said status
+  only_asked can_be (Ok c) ran told flag input asks which =
       inl (
         c.request,
         asks,
@@ -234,15 +236,7 @@ module _ (words : List (List ℕ)) (known left : Option (List ℕ))
         subst (λ b. RanFor c.request b known left bytes can_fail reads writes old new before said
             status) flag ran,
       )
-  only_asked (Err (words_fault.Usage text)) ran told flag input asks chunk plan builders =
-      inr (
-        inl (
-          string_bytes text,
-          record { chunk = chunk; plan = plan; builders = builders },
-          told.tells,
-        ),
-        input,
-        told.kept,
-      )
-  only_asked (Err words_fault.NoMemory) ran told flag input asks chunk plan builders =
+  only_asked can_be (Err (words_fault.Usage text)) ran told flag input asks which =
+      inr (inl (string_bytes text, which, told.tells), input, told.kept)
+  only_asked can_be (Err words_fault.NoMemory) ran told flag input asks which =
       inr (inr told.tells, input, told.kept)

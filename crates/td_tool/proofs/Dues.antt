@@ -2,7 +2,7 @@
 use Rattle.std.proofs.Common.{◌≡◌, ◌≢◌, ℕ, ◌==◌, List, Option, Bool, true, false, Result, Ok, Err}
 use Rattle.std.proofs.Common.{IfOk, IfErr, String, ap, if◌then◌else◌, inl, inr, refl, subst, sym}
 use Rattle.std.proofs.Common.{◌∙◌}
-use Rattle.std.specs.Prelude.{IsErrOf, MatchResult, None, OnOk, OnSome}
+use Rattle.std.specs.Prelude.{IsErrOf, MatchResult, None, Some, OnOk, OnSome}
 use Rattle.std.specs.declared.alloc.Global.{Global}
 use Rattle.td_bytes.specs.declared.text.TextFault.{TextFault}
 use Rattle.td_bytes.specs.declared.text.TextFault.TheVariants as text
@@ -16,12 +16,13 @@ use Rattle.td_inputs.specs.declared.role.Role.TheVariants.{Input, Archs, Package
 use Rattle.td_inputs.specs.declared.role.Role.TheVariants.{Tracker, Outcomes, Journal}
 use Rattle.td_simulate.specs.declared.fault.SimulationFault.{SimulationFault}
 use Rattle.td_simulate.specs.declared.fault.SimulationFault.TheVariants as simulation
-use Rattle.td_tool.specs.declared.checking.Counts.{Counts}
+use Rattle.td_words.specs.CheckWords.{CheckWords}
 use Rattle.td_tool.specs.declared.ending.Ended.{Ended}
 use Rattle.td_tool.specs.declared.ending.Ending.{Ending}
 use Rattle.td_tool.specs.declared.ending.Ending.TheVariants.{Done, Refused, BadInput, NoMemory}
 use Rattle.td_tool.specs.declared.ending.Ending.TheVariants.{CannotRead, CannotWrite}
-use Rattle.td_tool.specs.CheckInside.{IsCounted, IsLineFor, IsNoArchive, WritesSo}
+use Rattle.td_tool.specs.CheckEnds.{CheckEndsWith}
+use Rattle.td_tool.specs.CheckInside.{ArchiveText, IsCounted, IsNoArchive, WritesSo}
 use Rattle.td_tool.specs.Checks.{CheckSays, HasFailed, files_of}
 use Rattle.td_tool.specs.Ending.{ending_of_file, ending_of_simulation, ending_of_stop}
 use Rattle.td_tool.specs.Ending.{ending_of_text}
@@ -32,7 +33,7 @@ use Rattle.td_tool.specs.Runs.{RunFiles, ending_of_crew, ending_of_script}
 use Rattle.td_tool.specs.Streams.{IsDue}
 use Rattle.td_tool.specs.TrackInside.{OrMemory}
 use Rattle.td_tool.specs.Tracks as track
-use Rattle.td_tool.specs.Tracks.{AreRefused, EndsSo, Saying, SaysSo, Texts, TrackFiles}
+use Rattle.td_tool.specs.Tracks.{AreRefused, EndsBy, Saying, SaysSo, Texts, TrackFiles}
 use Rattle.td_tool.proofs.FormEndings.{form_ends}
 
 -- ---- 1. a script, without builders and with them
@@ -118,32 +119,29 @@ no_input bytes can_fail archs packages sources role fault failed same =
     failed).may in
     cc
 
-pub check_due : (input output : Bool) (bytes : List ℕ → Option (List ℕ))
+check_due : (input output details : Bool) (bytes : List ℕ → Option (List ℕ))
     (can_fail : List ℕ → TextFault → Bool) (archs packages sources : List ℕ)
     (old new : Option (List ℕ)) (ending : Ending)
-    → CheckSays (files_of bytes can_fail archs packages sources) old new ending
+    → CheckSays details (files_of bytes can_fail archs packages sources) old new ending
     → (ending ≡ CannotWrite → output ≡ true) → IsDue input output ending
-check_due input output bytes can_fail a p s old new Done says write = tt
-check_due input output bytes can_fail a p s old new Refused says write = tt
-check_due input output bytes can_fail a p s old new (BadInput role e) says write = tt
-check_due input output bytes can_fail a p s old new NoMemory says write = tt
-check_due input output bytes can_fail a p s old new (CannotRead role) (inl failed, kept) write =
+check_due input output details bytes can_fail a p s old new Done says write = tt
+check_due input output details bytes can_fail a p s old new Refused says write = tt
+check_due input output details bytes can_fail a p s old new (BadInput role e) says write = tt
+check_due input output details bytes can_fail a p s old new NoMemory says write = tt
+check_due input output details bytes can_fail a p s old new (CannotRead role) (inl failed, kept)
+    write =
     unread_due input output role (no_input bytes can_fail a p s role text.CannotRead failed)
-check_due input output bytes can_fail a p s old new (CannotRead role) (inr failed, kept) write =
+check_due input output details bytes can_fail a p s old new (CannotRead role) (inr failed, kept)
+    write =
     unread_due input output role (no_input bytes can_fail a p s role text.TooLong failed)
-check_due input output bytes can_fail a p s old new CannotWrite says write = write refl
+check_due input output details bytes can_fail a p s old new CannotWrite says write = write refl
 
--- if there is no line to be written, no write has failed
-pub line_unwritten : (a p s : List ℕ) (counted : Result Counts Ending)
-    (line : Result (String Global) Ending) → IsCounted a p s counted
-    → IfOk counted (λ n. MatchResult line (IsLineFor n) (λ e. e ≡ NoMemory))
-    → IfErr counted (λ e. line ≡ Err e) → IfErr line (λ e. e ≢ CannotWrite)
-line_unwritten a p s (Ok n) (Ok l) counted is refused = tt
-line_unwritten a p s (Ok n) (Err e) counted is refused =
-    λ same. (let other : NoMemory ≡ CannotWrite = sym is ∙ same in cc)
-line_unwritten a p s (Err e) line counted is refused =
-    subst (λ l. IfErr l (λ e. e ≢ CannotWrite)) (sym refused)
-    (λ same. subst (IsNoArchive a p s) same counted.refused)
+-- if there is no text to be written, no write has failed
+pub text_uncounted : (says : ArchiveText) (a p s : List ℕ) (counted : Result (String Global) Ending)
+    → IsCounted says a p s counted → IfErr counted (λ e. e ≢ CannotWrite)
+text_uncounted says a p s (Ok text) counted = tt
+text_uncounted says a p s (Err e) counted =
+    λ same. subst (IsNoArchive a p s) same counted.refused
 
 -- ---- 4. a tracker
 
@@ -170,7 +168,7 @@ written_due input output line old new NoMemory so write = tt
 written_due input output line old new (CannotRead role) so write = absurd so
 written_due input output line old new CannotWrite so write = write refl
 
-says_due : (input output : Bool) (Says : Saying) (files : TrackFiles)
+says_due : (input output : Bool) (Says : Texts → Saying) (files : TrackFiles)
     (old new : Option (List ℕ)) (ending : Ending) → SaysSo Says files old new ending
     → (ending ≡ CannotWrite → output ≡ true) → IsDue input output ending
 says_due input output Says files old new ending (inl (is, kept)) write =
@@ -187,11 +185,23 @@ says_due input output Says files old new ending
     (inr (inr (x, are, inr (line, says, so)))) write =
     written_due input output line old new ending so write
 
-pub track_due : (input output : Bool) (Says : Saying) (files : TrackFiles)
-    (old new : Option (List ℕ)) (ending : Ending) → EndsSo Says files old new ending
+pub track_due : (input output : Bool) (Says : Texts → Saying) (files : TrackFiles)
+    (old new : Option (List ℕ)) (ending : Ending) → EndsBy Says files old new ending
     → (ending ≡ CannotWrite → output ≡ true) → IsDue input output ending
 track_due input output Says files old new ending ends write =
     says_due input output Says files old new ending ends.says write
+
+-- a check, with a tracker or without
+pub asked_check_due : (input output : Bool) (tracker : Option (List ℕ))
+    (bytes : List ℕ → Option (List ℕ)) (can_fail : List ℕ → TextFault → Bool) (w : CheckWords)
+    (old new : Option (List ℕ)) (ending : Ending)
+    → CheckEndsWith tracker bytes can_fail w old new ending
+    → (ending ≡ CannotWrite → output ≡ true) → IsDue input output ending
+asked_check_due input output None bytes can_fail w old new ending ends write =
+    check_due input output w.details bytes can_fail w.archs w.packages w.sources old new ending
+    ends.says write
+asked_check_due input output (Some path) bytes can_fail w old new ending ends write =
+    track_due input output _ _ old new ending ends write
 
 -- ---- 5. a simulation
 
@@ -242,5 +252,5 @@ kept_steady P (Ok text) input is holds = subst (λ i. OnSome i P) (sym is) holds
 kept_steady P (Err fault) input is holds = subst (λ i. OnSome i P) (sym is) tt
 
 pub steady_alone : (P : Type 0) (ending : Ending) (made : Ended)
-    → made ≡ record { ending = ending; input = None } → OnSome made.input P
+    → made ≡ record { ending = ending; input = None; notes = None } → OnSome made.input P
 steady_alone P ending made is = subst (λ (x : Ended). OnSome x.input P) (sym is) tt

@@ -2,7 +2,8 @@
 use Rattle.std.proofs.Common.{◌≡◌, ◌⊎◌, ◌≤◌, ℕ, Bool, true, false, List, [], length, Option}
 use Rattle.std.proofs.Common.{Some, None, IfSome, Result, Ok, Err, IfOk, IfErr, MatchResult, OnOk}
 use Rattle.std.proofs.Common.{OnErr, String, string_bytes, append-nil, inl, inr, refl, sym, subst}
-use Rattle.std.proofs.Common.{◌∙◌, IsSomeAnd}
+use Rattle.std.proofs.Common.{◌∙◌, IsSomeAnd, option_map}
+use Rattle.std.specs.Prelude.{OnSome}
 use Rattle.std.specs.declared.alloc.Global.{Global}
 use Rattle.td_bytes.specs.Pieces.{AppendsPrefix}
 use Rattle.std.specs.Io.KnownBytes.{Appends, Keeps}
@@ -28,7 +29,7 @@ use Rattle.td_tool.specs.declared.explaining.Unexplained.TheVariants as unexplai
 path_known : (request : Request) (known : Option (List ℕ)) (bytes : List ℕ → Option (List ℕ))
     (r : Role) → paths_of request r ≡ (known_of_request request known bytes r).path
 path_known asked.Simulate known bytes r = refl
-path_known (asked.Check files) known bytes r = refl
+path_known (asked.Check w) known bytes r = refl
 path_known (asked.Track w) known bytes r = refl
 path_known (asked.Waves w) known bytes r = refl
 path_known (asked.Plan w) known bytes r = refl
@@ -43,25 +44,25 @@ some_cause can_be (Some p) r line told = (Some told.0, told.2)
 
 -- a line that tells a cause that the file may have explains that it isn't read
 pub own_cause_explains : (can_be : Causes) (request : Request) (known : Option (List ℕ))
-    (bytes : List ℕ → Option (List ℕ)) (r : Role)
+    (bytes : List ℕ → Option (List ℕ)) (notes : Option (List ℕ)) (r : Role)
     (made : Result (Option (String Global)) Unexplained)
     → IfOk made (λ told. IfSome told (λ line. IsSomeAnd (paths_of request r)
     (λ path. TellsCause can_be path r (string_bytes line))))
     → IfOk made (λ told. IfSome told (λ line.
-    Explains (known_of_request request known bytes) (CannotRead r) (string_bytes line)))
-own_cause_explains can_be request known bytes r (Ok (Some line)) told =
+    Explains (known_of_request request known bytes) notes (CannotRead r) (string_bytes line)))
+own_cause_explains can_be request known bytes notes r (Ok (Some line)) told =
     subst (λ path. (cause : Option Cause) × (string_bytes line ≡ unread_line r path cause))
     (path_known request known bytes r)
     (some_cause can_be (paths_of request r) r (string_bytes line) told)
-own_cause_explains can_be request known bytes r (Ok None) told = tt
-own_cause_explains can_be request known bytes r (Err e) told = tt
+own_cause_explains can_be request known bytes notes r (Ok None) told = tt
+own_cause_explains can_be request known bytes notes r (Err e) told = tt
 
 -- the line of the ending, or a front of it, is enough for `SaysOf`
-pub line_alone : (explained : Bool) (known : Role → Given) (ending : Ending)
-    (before said : Option (List ℕ)) → AppendsPrefix before said (line_of ending)
-    → SaysOf explained known ending before said
-line_alone false known ending before said line = line
-line_alone true known ending before said line = inl line
+pub line_alone : (explained : Bool) (known : Role → Given) (notes : Option (List ℕ))
+    (ending : Ending) (before said : Option (List ℕ)) → AppendsPrefix before said (line_of ending)
+    → SaysOf explained known notes ending before said
+line_alone false known notes ending before said line = line
+line_alone true known notes ending before said line = inl line
 
 -- bytes that are written whole are written as a front of themselves
 whole_front : (before said : Option (List ℕ)) (bytes : List ℕ) → Appends before said bytes
@@ -125,7 +126,7 @@ module _ (known : Role → Given) (ended : Ended) (request : Request)
     (can_be : Causes) (can_pack : Packings) (before between said : Option (List ℕ)) where
   abbrev Explained : Result (Option (String Global)) Unexplained → Type 0
   Explained r = IfOk r (λ told. IfSome told (λ line.
-      Explains known ended.ending (string_bytes line)))
+      Explains known (option_map string_bytes ended.notes) ended.ending (string_bytes line)))
 
   abbrev Caused : Result (Option (String Global)) Unexplained → Type 0
   Caused r = IfOk r (λ told. IfSome told (λ line.
@@ -135,7 +136,7 @@ module _ (known : Role → Given) (ended : Ended) (request : Request)
   pub said_whole : (r : Result (Option (String Global)) Unexplained)
       (q : Result (Unit {0}) Unexplained) → Appends before between (line_of ended.ending)
       → Explained r → Caused r → IfOk r (λ told. told ≡ None
-      → HasNone can_be ended.ending ended.input request)
+      → HasNone can_be ended request)
       → Put between said r q → Left between said r q
       → OnOk q (SaysAll true known can_be can_pack ended request before said)
   said_whole (Ok (Some line)) (Ok u) first explained caused none put left =
@@ -160,7 +161,7 @@ module _ (known : Role → Given) (ended : Ended) (request : Request)
   pub said_front : (r : Result (Option (String Global)) Unexplained)
       (q : Result (Unit {0}) Unexplained) → Appends before between (line_of ended.ending)
       → Explained r → Put between said r q → Left between said r q
-      → SaysOf true known ended.ending before said
+      → SaysOf true known (option_map string_bytes ended.notes) ended.ending before said
   said_front (Ok (Some line)) (Ok u) first explained put left =
       inr (
         string_bytes line,
@@ -187,15 +188,42 @@ module _ (known : Role → Given) (ended : Ended) (request : Request)
 -- ---- an ending with no text kept
 
 pub ends_alone : (P : Ending → Type 0) (ending : Ending) (made : Ended)
-    → made ≡ record { ending = ending; input = None } → P ending → P made.ending
+    → made ≡ record { ending = ending; input = None; notes = None } → P ending → P made.ending
 ends_alone P ending made is holds = subst (λ (x : Ended). P x.ending) (sym is) holds
 
 pub kept_alone : (known : Role → Given) (ending : Ending) (made : Ended)
-    → made ≡ record { ending = ending; input = None } → IsKept known made.input
+    → made ≡ record { ending = ending; input = None; notes = None } → IsKept known made.input
 kept_alone known ending made is = subst (λ (x : Ended). IsKept known x.input) (sym is) tt
 
 pub short_alone : (limit : ℕ) (ending : Ending) (made : Ended)
-    → made ≡ record { ending = ending; input = None }
+    → made ≡ record { ending = ending; input = None; notes = None }
     → IfSome made.input (λ kept. length (string_bytes kept) ≤ limit)
 short_alone limit ending made is =
     subst (λ (x : Ended). IfSome x.input (λ kept. length (string_bytes kept) ≤ limit)) (sym is) tt
+
+-- nothing is noted, whatever could be
+pub noted_alone : (P : List ℕ → Type 0) (ending : Ending) (made : Ended)
+    → made ≡ record { ending = ending; input = None; notes = None }
+    → IfSome (option_map string_bytes made.notes) P
+noted_alone P ending made is =
+    subst (λ (x : Ended). IfSome (option_map string_bytes x.notes) P) (sym is) tt
+
+-- ---- an ending by its parts
+
+pub none_noted : (P : List ℕ → Type 0) (made : Ended) → made.notes ≡ None
+    → IfSome (option_map string_bytes made.notes) P
+none_noted P made is =
+    subst (λ (o : Option (String Global)). IfSome (option_map string_bytes o) P) (sym is) tt
+
+pub kept_none : (known : Role → Given) (input : Option (String Global)) → input ≡ None
+    → IsKept known input
+kept_none known input is = subst (IsKept known) (sym is) tt
+
+pub short_none : (limit : ℕ) (input : Option (String Global)) → input ≡ None
+    → IfSome input (λ kept. length (string_bytes kept) ≤ limit)
+short_none limit input is =
+    subst (λ (o : Option (String Global)). IfSome o (λ kept. length (string_bytes kept) ≤ limit))
+    (sym is) tt
+
+pub steady_none : (P : Type 0) (input : Option (String Global)) → input ≡ None → OnSome input P
+steady_none P input is = subst (λ (o : Option (String Global)). OnSome o P) (sym is) tt

@@ -1,6 +1,6 @@
 -- Checks end as they say by what was read of the files.
-use Rattle.std.proofs.Common.{◌≡◌, ℕ, List, Option, Some, IfSome, Result, Ok, Err, IfOk, IfErr}
-use Rattle.std.proofs.Common.{string_bytes, inl, inr, sym, subst}
+use Rattle.std.proofs.Common.{◌≡◌, ℕ, Bool, List, Option, Some, IfSome, Result, Ok, Err, IfOk}
+use Rattle.std.proofs.Common.{IfErr, string_bytes, ap, inl, inr, sym, subst, ◌∙◌}
 use Rattle.std.specs.Io.KnownBytes.{Keeps}
 use Rattle.td_bytes.specs.declared.text.TextFault.{TextFault}
 use Rattle.td_bytes.specs.declared.text.TextFault.TheVariants as text
@@ -27,10 +27,11 @@ use Rattle.td_tool.specs.declared.ending.Ending.{Ending}
 use Rattle.td_tool.specs.declared.ending.Ending.TheVariants.{Done, Refused, BadInput, NoMemory}
 use Rattle.td_tool.specs.declared.ending.Ending.TheVariants.{CannotRead, CannotWrite}
 use Rattle.td_tool.specs.Ending.{ending_of_file}
-use Rattle.td_tool.specs.Counted.{IsArchiveOf}
+use Rattle.td_tool.specs.Counted.{IsArchiveOf, check_text, cut_in}
 use Rattle.td_tool.specs.Checks.{Files, IsTextOf, IsArchiveIn, IsKnownArchive, IsNoText, HasFailed}
 use Rattle.td_tool.specs.Checks.{HasFileFault, CheckSays, Checks, HasArchiveFault, HasTableFault}
-use Rattle.td_tool.specs.CheckInside.{HasFailedIn, IsNoArchive, TextsSay}
+use Rattle.td_tool.specs.Checks.{EndsCounted, known_text}
+use Rattle.td_tool.specs.CheckInside.{AreFlags, HasFailedIn, IsNoArchive, TextsEnd, TextsSay}
 use Rattle.td_tool.specs.TrackInside.{AreEarlyTextsIn}
 use Rattle.td_tool.specs.CheckInside.{FileTextsEnd, FileUnread}
 
@@ -58,15 +59,17 @@ no_such_text files Journal c failed known = failed.before
 no_such_text files Sources c failed known =
     (subst IsNoText known.known_sources failed.fits).1 known.sources_text.1
 
-unread : (files : Files) (old new : Option (List ℕ)) (role : Role) (e : TextFault)
-    → HasFailed files role e → Keeps old new → Checks files old new (ending_of_file role e)
-unread files old new role text.CannotRead failed kept =
+unread : (details : Bool) (files : Files) (old new : Option (List ℕ)) (role : Role) (e : TextFault)
+    → HasFailed files role e → Keeps old new
+    → Checks details files old new (ending_of_file role e)
+unread details files old new role text.CannotRead failed kept =
     record { says = (inl failed, kept); only = λ c known. kept }
-unread files old new role text.TooLong failed kept =
+unread details files old new role text.TooLong failed kept =
     record { says = (inr failed, kept); only = λ c known. kept }
-unread files old new role text.NotText failed kept =
+unread details files old new role text.NotText failed kept =
     record { says = (failed, kept); only = λ c known. no_such_text files role c failed known }
-unread files old new role text.NoMemory failed kept = record { says = kept; only = λ c known. kept }
+unread details files old new role text.NoMemory failed kept =
+    record { says = kept; only = λ c known. kept }
 
 -- ---- three texts
 
@@ -125,7 +128,7 @@ has_fault files t role (Form (form.Tracker e)) texts is = absurd is
 has_fault files t role (BadOutcome n) texts is = absurd is
 has_fault files t role (Form (form.Journal e)) texts is = absurd is
 
-archive_in : (files : Files) (t : EarlyTexts) (c : Contents) → AreEarlyTextsIn files t
+abbrev archive_in : (files : Files) (t : EarlyTexts) (c : Contents) → AreEarlyTextsIn files t
     → IsArchiveOf (string_bytes t.archs) t.packages t.sources c
     → IsArchiveIn files c
 archive_in files t c texts is =
@@ -137,18 +140,18 @@ archive_in files t c texts is =
       archive = is;
     }
 
-check_says : (files : Files) (t : EarlyTexts) (old new : Option (List ℕ)) (ending : Ending)
-    → AreEarlyTextsIn files t
-    → TextsSay (string_bytes t.archs) t.packages t.sources old new
-    ending → CheckSays files old new ending
-check_says files t old new Done texts says =
+check_says : (details : Bool) (files : Files) (t : EarlyTexts) (old new : Option (List ℕ))
+    (ending : Ending) → AreEarlyTextsIn files t
+    → TextsSay (check_text details (cut_in t.packages t.sources)) (string_bytes t.archs) t.packages
+    t.sources old new ending → CheckSays details files old new ending
+check_says details files t old new Done texts says =
     (says.0, archive_in files t says.0 texts says.1, says.2)
-check_says files t old new Refused texts says = says
-check_says files t old new (BadInput role e) texts says =
+check_says details files t old new Refused texts says = says
+check_says details files t old new (BadInput role e) texts says =
     (has_fault files t role e texts says.0, says.1)
-check_says files t old new NoMemory texts says = says
-check_says files t old new (CannotRead role) texts says = absurd says
-check_says files t old new CannotWrite texts says =
+check_says details files t old new NoMemory texts says = says
+check_says details files t old new (CannotRead role) texts says = absurd says
+check_says details files t old new CannotWrite texts says =
     (says.0, archive_in files t says.0 texts says.1, says.2)
 
 -- the archive that is known is the one that was read
@@ -166,17 +169,35 @@ archive_read files t c texts known =
     (same_text files.in_sources known.sources t.sources known.known_sources
     texts.sources_text) of_packages
 
+-- what is said of the archive that is known is what was said of the one that was read
+text_read : (details : Bool) (files : Files) (t : EarlyTexts) (c : Contents)
+    → AreEarlyTextsIn files t → (known : IsKnownArchive files c)
+    → check_text details (cut_in t.packages t.sources) c ≡ known_text details files c known
+text_read details files t c texts known =
+    sym (ap (λ p. check_text details (cut_in p known.sources) c)
+    (same_text files.in_packages known.packages t.packages known.known_packages
+    texts.packages_text)
+    ∙ ap (λ s. check_text details (cut_in t.packages s) c)
+    (same_text files.in_sources known.sources t.sources known.known_sources texts.sources_text))
+
 -- ---- the whole
 
-pub checks : (files : Files) (old new : Option (List ℕ)) (r : Result EarlyTexts FileFault)
-    (ending : Ending) → IfOk r (AreEarlyTextsIn files) → IfErr r (HasFailedIn files)
-    → IfOk r (λ t. FileTextsEnd t old new ending) → IfErr r (λ f. FileUnread f old new ending)
-    → Checks files old new ending
-checks files old new (Ok t) ending texts failed ends none =
+pub checks : (details : Bool) (files : Files) (old new : Option (List ℕ))
+    (r : Result EarlyTexts FileFault) (ending : Ending) → IfOk r (AreEarlyTextsIn files)
+    → IfOk r AreFlags
+    → IfErr r (HasFailedIn files) → IfOk r (λ t. FileTextsEnd details t old new ending)
+    → IfErr r (λ f. FileUnread f old new ending)
+    → Checks details files old new ending
+checks details files old new (Ok t) ending texts flags failed ends none =
+    let told = subst (λ cut. TextsEnd (check_text details cut) (string_bytes t.archs) t.packages
+    t.sources old new ending) flags ends in
     record {
-      says = check_says files t old new ending texts ends.says;
-      only = λ c known. ends.only c (archive_read files t c texts known);
+      says = check_says details files t old new ending texts told.says;
+      only = λ c known.
+          subst (λ text. EndsCounted text old new ending)
+          (text_read details files t c texts known)
+          (told.only c (archive_read files t c texts known));
     }
-checks files old new (Err f) ending texts failed ends none =
-    subst (Checks files old new) (sym none.ends)
-    (unread files old new f.role f.fault failed none.kept)
+checks details files old new (Err f) ending texts flags failed ends none =
+    subst (Checks details files old new) (sym none.ends)
+    (unread details files old new f.role f.fault failed none.kept)

@@ -1,12 +1,24 @@
 -- A file of an archive that wasn't read, after those that were.
-use Rattle.std.proofs.Common.{ℕ, Bool, List, Option, sym, subst}
+use Rattle.std.proofs.Common.{◌≡◌, ℕ, Bool, List, Option, ap, sym, subst, ◌∙◌}
 use Rattle.td_bytes.specs.declared.text.TextFault.{TextFault}
 use Rattle.td_tool.specs.declared.file_texts.FileFault.{FileFault}
 use Rattle.td_inputs.specs.declared.role.Role.TheVariants.{Archs, Packages, Sources}
 use Rattle.td_tool.specs.Checks.{HasFailed, IsTextOf, files_of}
 use Rattle.td_tool.specs.CheckInside.{HasFailedIn}
 use Rattle.td_tool.specs.TrackInside.{HasFailedFor}
+use Rattle.td_details.specs.CutOff.{is_cut_off}
+use Rattle.td_tool.specs.Counted.{cut_in}
 use Rattle.td_tool.specs.Tracks.{file_at}
+use Rattle.td_tool.specs.declared.early_texts.CutOff.{CutOff}
+
+abbrev flags : Bool → Bool → CutOff
+flags packages sources = record { packages = packages; sources = sources }
+
+-- flags that are each what its text says are those of both texts
+pub flags_said : (a b : Bool) (packages sources : List ℕ) → a ≡ is_cut_off packages
+    → b ≡ is_cut_off sources → flags a b ≡ cut_in packages sources
+flags_said a b packages sources first second =
+    ap (λ v. flags v b) first ∙ ap (λ v. flags (is_cut_off packages) v) second
 
 module _ (bytes : List ℕ → Option (List ℕ)) (can_fail : List ℕ → TextFault → Bool)
     (archs packages sources : List ℕ) (f : FileFault) where

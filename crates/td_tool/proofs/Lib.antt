@@ -5,6 +5,7 @@ pub mod Plays
 pub mod Files
 pub mod FirstFiles
 pub mod Counting
+pub mod FolderCalls
 pub mod Asks
 pub mod Explanations
 pub mod Told
@@ -17,3 +18,4 @@ pub mod RunInputs
 pub mod FormEndings
 pub mod FileEndings
 pub mod Dues
+pub mod Noted

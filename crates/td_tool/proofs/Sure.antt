@@ -21,10 +21,12 @@ use Rattle.td_tool.specs.declared.ending.Ending.TheVariants.{Done, Refused, BadI
 use Rattle.td_tool.specs.declared.ending.Ending.TheVariants.{CannotRead, CannotWrite}
 use Rattle.td_tool.specs.Ending.{ending_of_file, ending_of_form}
 use Rattle.td_tool.specs.Checks.{IsNoText, IsTextOf}
-use Rattle.td_tool.specs.CheckInside.{EndsUnwritten, FileUnread, WritesSo}
-use Rattle.td_tool.specs.Tracks.{AreKnownTexts, AreReadable, AreRefused, AreTextsOf, EndsSo}
+use Rattle.td_tool.specs.CheckInside.{AreFlags, EndsUnwritten, FileUnread, WritesSo}
+use Rattle.td_tool.specs.Tracks.{AreKnownTexts, AreReadable, AreRefused, AreTextsOf, EndsBy}
 use Rattle.td_tool.specs.Tracks.{EndsTold, FailsAt, IsKnownIfGiven, IsKnownText, IsTextIfGiven}
-use Rattle.td_tool.specs.Tracks.{OneFile, Saying, Texts, TextsSayIt, TrackFiles}
+use Rattle.td_tool.specs.Tracks.{OneFile, Saying, Texts, TextsSayIt, TrackFiles, details_of}
+use Rattle.td_tool.specs.Tracks.{details_says}
+use Rattle.td_tool.specs.declared.early_texts.CutOff.{CutOff}
 use Rattle.td_tool.specs.TrackInside.{AreTextsRead, HasFailedAt, Tells, TellsTexts, texts_of}
 
 -- ---- known files
@@ -95,14 +97,14 @@ unread_told Says files x old new role text_fault.NotText failed kept known =
     absurd (no_such_text files role x failed known)
 unread_told Says files x old new role text_fault.NoMemory failed kept known = kept
 
-ends_unread : (Says : Saying) (files : TrackFiles) (f : FileFault) (old new : Option (List ℕ))
-    (ending : Ending) → HasFailedAt files f → ending ≡ ending_of_file f.role f.fault → Keeps old new
-    → EndsSo Says files old new ending
+ends_unread : (Says : Texts → Saying) (files : TrackFiles) (f : FileFault)
+    (old new : Option (List ℕ)) (ending : Ending) → HasFailedAt files f
+    → ending ≡ ending_of_file f.role f.fault → Keeps old new → EndsBy Says files old new ending
 ends_unread Says files f old new ending failed is kept = record {
   says = inr (inl ((f.role, f.fault, failed, is), kept));
   only = λ x known readable.
-      subst (EndsTold Says x old new) (sym is)
-      (unread_told Says files x old new f.role f.fault failed kept known);
+      subst (EndsTold (Says x) x old new) (sym is)
+      (unread_told (Says x) files x old new f.role f.fault failed kept known);
 }
 
 -- a run that has a text to write ends as readable texts do
@@ -147,10 +149,20 @@ tells_texts Says x (Err e) old new ending tells writes unwritten = record {
       (told_none Says x stopped.0 old new stopped.1 unwritten.kept);
 }
 
-pub ends_so : (Says : Saying) (files : TrackFiles) (old new : Option (List ℕ))
+-- details of texts are told by which of the indices may be cut off
+pub tells_details : (r : Result TrackTexts FileFault) (cut : CutOff) (old new : Option (List ℕ))
+    (ending : Ending) → IfOk r (λ x. cut ≡ x.indices.cut) → IfOk r (λ x. AreFlags x.indices)
+    → IfOk r (λ x. TellsTexts (details_says cut) (texts_of x) old new ending)
+    → IfOk r (λ x. TellsTexts (details_of (texts_of x)) (texts_of x) old new ending)
+tells_details (Ok read) cut old new ending same flags tells =
+    subst (λ v. TellsTexts (details_says v) (texts_of read) old new ending) (same ∙ flags) tells
+tells_details (Err f) cut old new ending same flags tells = tt
+
+pub ends_so : (Says : Texts → Saying) (files : TrackFiles) (old new : Option (List ℕ))
     (r : Result TrackTexts FileFault) (ending : Ending) → IfOk r (AreTextsRead files)
-    → IfErr r (HasFailedAt files) → IfOk r (λ x. TellsTexts Says (texts_of x) old new ending)
-    → IfErr r (λ f. FileUnread f old new ending) → EndsSo Says files old new ending
+    → IfErr r (HasFailedAt files)
+    → IfOk r (λ x. TellsTexts (Says (texts_of x)) (texts_of x) old new ending)
+    → IfErr r (λ f. FileUnread f old new ending) → EndsBy Says files old new ending
 ends_so Says files old new (Ok read) ending texts failed tells unread = record {
   says = elim tells.says [
     | inl lacks ↦ inl lacks
@@ -158,7 +170,7 @@ ends_so Says files old new (Ok read) ending texts failed tells unread = record {
   ];
   only = λ y known readable.
       let same = same_texts files y (texts_of read) known texts in
-      subst (λ z. EndsTold Says z old new ending) (sym same)
+      subst (λ z. EndsTold (Says z) z old new ending) (sym same)
       (tells.only (subst AreReadable same readable));
 }
 ends_so Says files old new (Err f) ending texts failed tells unread =

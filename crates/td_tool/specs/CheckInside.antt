@@ -1,6 +1,6 @@
 -- What the inner functions of a check answer. This project's own.
 use Rattle.std.specs.Prelude.{◌≡◌, ℕ, ◌≤◌, List, [], length, Option, None, Result, IfOk, IfErr}
-use Rattle.std.specs.Prelude.{MatchResult, String, string_bytes}
+use Rattle.std.specs.Prelude.{Bool, MatchResult, String, string_bytes}
 use Rattle.std.specs.declared.alloc.Global.{Global}
 use Rattle.std.specs.Io.KnownBytes.{Appends, Keeps}
 use Rattle.td_bytes.specs.Pieces.{AppendsPrefix}
@@ -11,9 +11,7 @@ use Rattle.td_relation.specs.TableFile as table_file
 use Rattle.td_relation.specs.declared.archs.ArchsFault.TheVariants as table
 use Rattle.td_indices.specs.Archive.{Contents}
 use Rattle.td_indices.specs.Archive as archive_file
-use Rattle.td_indices.specs.Rows.{row_count}
 use Rattle.td_indices.specs.declared.archive_fault.ArchiveFault.TheVariants as archive
-use Rattle.td_tool.specs.declared.checking.Counts.{Counts}
 use Rattle.td_tool.specs.declared.early_texts.EarlyTexts.{EarlyTexts}
 use Rattle.td_tool.specs.declared.file_texts.FileTexts.{FileTexts}
 use Rattle.td_tool.specs.declared.file_texts.FileFault.{FileFault}
@@ -27,7 +25,7 @@ use Rattle.td_tool.specs.declared.ending.Ending.{Ending}
 use Rattle.td_tool.specs.declared.ending.Ending.TheVariants.{Done, Refused, BadInput, NoMemory}
 use Rattle.td_tool.specs.declared.ending.Ending.TheVariants.{CannotRead, CannotWrite}
 use Rattle.td_tool.specs.Ending.{ending_of_file}
-use Rattle.td_tool.specs.Counted.{IsArchiveOf, counts_line, line_of_counts}
+use Rattle.td_tool.specs.Counted.{IsArchiveOf, check_text, cut_in}
 use Rattle.td_tool.specs.Limits.{file_limit}
 use Rattle.td_tool.specs.Checks.{Files, AreTexts, EndsCounted, HasFailed}
 
@@ -58,13 +56,19 @@ texts_checked a p s = record {
   suite = [];
 }
 
--- ---- 2. the counts
+-- ---- 2. what is said
 
--- these are the counts of the archive
-pub record AreCountsOf (c : Contents) (n : Counts) : Type 0 where
-  pub of_sources : n.sources ≡ length c.sources
-  pub of_binaries : n.binaries ≡ length c.binaries
-  pub of_rows : n.rows ≡ row_count c.table c.sources
+-- which of the indices may be cut off is what their texts say
+abbrev pub AreFlags : EarlyTexts → Type 0
+AreFlags t = t.cut ≡ cut_in t.packages t.sources
+
+-- what is to be said of an archive
+abbrev pub ArchiveText : Type 0
+ArchiveText = Contents → List ℕ
+
+-- that is said of the archive
+abbrev pub Tells : ArchiveText → Contents → String Global → Type 0
+Tells said c text = string_bytes text ≡ said c
 
 -- the ending if three texts are no archive, or memory runs out
 abbrev pub IsNoArchive : List ℕ → List ℕ → List ℕ → Ending → Type 0
@@ -90,16 +94,13 @@ IsNoArchive a p s NoMemory = Unit {0}
 IsNoArchive a p s (CannotRead role) = ⊥
 IsNoArchive a p s CannotWrite = ⊥
 
--- what is counted of three texts: an archive is counted, unless memory runs out
-pub record IsCounted (a p s : List ℕ) (counted : Result Counts Ending) : Type 0 where
-  pub found : IfOk counted (λ n. (c : Contents) × IsArchiveOf a p s c × AreCountsOf c n)
+-- what is said of three texts: an archive is counted, unless memory runs out
+pub record IsCounted (said : ArchiveText) (a p s : List ℕ)
+    (counted : Result (String Global) Ending) : Type 0 where
+  pub found : IfOk counted (λ text. (c : Contents) × IsArchiveOf a p s c × Tells said c text)
   pub only : (c : Contents) → IsArchiveOf a p s c
-      → MatchResult counted (AreCountsOf c) (λ e. e ≡ NoMemory)
+      → MatchResult counted (Tells said c) (λ e. e ≡ NoMemory)
   pub refused : IfErr counted (IsNoArchive a p s)
-
--- the line of the counts
-abbrev pub IsLineFor : Counts → String Global → Type 0
-IsLineFor n line = string_bytes line ≡ line_of_counts n.sources n.binaries n.rows
 
 -- ---- 3. what is written
 
@@ -119,25 +120,29 @@ pub record EndsUnwritten (expected : Ending) (old new : Option (List ℕ))
   pub kept : Keeps old new
 
 -- what an ending says of three texts: they were read, so no read has failed
-abbrev pub TextsSay : List ℕ → List ℕ → List ℕ → Option (List ℕ) → Option (List ℕ) → Ending → Type 0
-TextsSay a p s old new Done = (c : Contents) × IsArchiveOf a p s c × Appends old new (counts_line c)
-TextsSay a p s old new Refused = ⊥
-TextsSay a p s old new (BadInput role e) = IsNoArchive a p s (BadInput role e) × Keeps old new
-TextsSay a p s old new NoMemory = Keeps old new
-TextsSay a p s old new (CannotRead role) = ⊥
-TextsSay a p s old new CannotWrite =
-    (c : Contents) × IsArchiveOf a p s c × AppendsPrefix old new (counts_line c)
+abbrev pub TextsSay : ArchiveText → List ℕ → List ℕ → List ℕ → Option (List ℕ) → Option (List ℕ)
+    → Ending → Type 0
+TextsSay said a p s old new Done =
+    (c : Contents) × IsArchiveOf a p s c × Appends old new (said c)
+TextsSay said a p s old new Refused = ⊥
+TextsSay said a p s old new (BadInput role e) =
+    IsNoArchive a p s (BadInput role e) × Keeps old new
+TextsSay said a p s old new NoMemory = Keeps old new
+TextsSay said a p s old new (CannotRead role) = ⊥
+TextsSay said a p s old new CannotWrite =
+    (c : Contents) × IsArchiveOf a p s c × AppendsPrefix old new (said c)
 
 -- three texts end the check so: the ending is as it says, and an archive is counted unless a write
 -- or memory fails
-pub record TextsEnd (a p s : List ℕ) (old new : Option (List ℕ)) (ending : Ending) : Type 0 where
-  pub says : TextsSay a p s old new ending
-  pub only : (c : Contents) → IsArchiveOf a p s c → EndsCounted c old new ending
+pub record TextsEnd (said : ArchiveText) (a p s : List ℕ) (old new : Option (List ℕ))
+    (ending : Ending) : Type 0 where
+  pub says : TextsSay said a p s old new ending
+  pub only : (c : Contents) → IsArchiveOf a p s c → EndsCounted (said c) old new ending
 
 -- the texts that were read from the three files end the check so
-abbrev pub FileTextsEnd : EarlyTexts → Option (List ℕ) → Option (List ℕ) → Ending → Type 0
-FileTextsEnd t old new ending =
-    TextsEnd (string_bytes t.archs) t.packages t.sources old new ending
+abbrev pub FileTextsEnd : Bool → EarlyTexts → Option (List ℕ) → Option (List ℕ) → Ending → Type 0
+FileTextsEnd details t old new ending =
+    TextsEnd (check_text details t.cut) (string_bytes t.archs) t.packages t.sources old new ending
 
 -- a file wasn't read, for this
 abbrev pub FileUnread : FileFault → Option (List ℕ) → Option (List ℕ) → Ending → Type 0

@@ -28,7 +28,7 @@ use Rattle.td_inputs.specs.declared.form_fault.FormFault.TheVariants as form
 use Rattle.td_tool.specs.declared.ending.Ending.{Ending}
 use Rattle.td_tool.specs.declared.ending.Ending.TheVariants.{Done, Refused, BadInput, NoMemory}
 use Rattle.td_tool.specs.declared.ending.Ending.TheVariants.{CannotRead, CannotWrite}
-use Rattle.td_tool.specs.Counted.{IsArchiveOf, counts_line}
+use Rattle.td_tool.specs.Counted.{IsArchiveOf, check_text, cut_in}
 
 -- ---- 1. what is read
 
@@ -180,17 +180,22 @@ HasFileFault files role (Form (form.Archive e)) =
 
 -- ---- 3. how it ends
 
--- what an ending says of the files and of what is written: the line of the archive, or a front of
--- it if the writer failed, or nothing if a file, a read or memory did
-abbrev pub CheckSays : Files → Option (List ℕ) → Option (List ℕ) → Ending → Type 0
-CheckSays files old new Done =
-    (c : Contents) × IsArchiveIn files c × Appends old new (counts_line c)
-CheckSays files old new Refused = ⊥
-CheckSays files old new (BadInput role e) = HasFileFault files role e × Keeps old new
-CheckSays files old new NoMemory = Keeps old new
-CheckSays files old new (CannotRead role) = IsUnreadable files role × Keeps old new
-CheckSays files old new CannotWrite =
-    (c : Contents) × IsArchiveIn files c × AppendsPrefix old new (counts_line c)
+-- what is said of the archive that the files are, with details or without
+abbrev pub text_in : (details : Bool) (files : Files) (c : Contents) → IsArchiveIn files c → List ℕ
+text_in details files c is = check_text details (cut_in is.packages is.sources) c
+
+-- what an ending says of the files and of what is written, with details or without: what is said
+-- of the archive, or a front of it if the writer failed, or nothing if a file, a read or memory did
+abbrev pub CheckSays : Bool → Files → Option (List ℕ) → Option (List ℕ) → Ending → Type 0
+CheckSays details files old new Done =
+    (c : Contents) × (is : IsArchiveIn files c) × Appends old new (text_in details files c is)
+CheckSays details files old new Refused = ⊥
+CheckSays details files old new (BadInput role e) = HasFileFault files role e × Keeps old new
+CheckSays details files old new NoMemory = Keeps old new
+CheckSays details files old new (CannotRead role) = IsUnreadable files role × Keeps old new
+CheckSays details files old new CannotWrite =
+    (c : Contents) × (is : IsArchiveIn files c)
+    × AppendsPrefix old new (text_in details files c is)
 
 -- all three files are known, and are this archive
 pub record IsKnownArchive (files : Files) (c : Contents) : Type 0 where
@@ -205,17 +210,25 @@ pub record IsKnownArchive (files : Files) (c : Contents) : Type 0 where
   pub sources_text : IsFileText sources
   pub archive : IsArchiveOf archs packages sources c
 
--- how a check of an archive may end
-abbrev pub EndsCounted : Contents → Option (List ℕ) → Option (List ℕ) → Ending → Type 0
-EndsCounted c old new Done = Appends old new (counts_line c)
-EndsCounted c old new Refused = ⊥
-EndsCounted c old new (BadInput role e) = ⊥
-EndsCounted c old new NoMemory = Keeps old new
-EndsCounted c old new (CannotRead role) = Keeps old new
-EndsCounted c old new CannotWrite = AppendsPrefix old new (counts_line c)
+-- what is said of it, with details or without
+abbrev pub known_text : (details : Bool) (files : Files) (c : Contents) → IsKnownArchive files c
+    → List ℕ
+known_text details files c known =
+    check_text details (cut_in known.packages known.sources) c
 
--- a check of these files ends so: the ending is as it says, and an archive is counted unless a
--- write, memory or a read of a file fails
-pub record Checks (files : Files) (old new : Option (List ℕ)) (ending : Ending) : Type 0 where
-  pub says : CheckSays files old new ending
-  pub only : (c : Contents) → IsKnownArchive files c → EndsCounted c old new ending
+-- how a check of an archive, of which this text is said, may end
+abbrev pub EndsCounted : List ℕ → Option (List ℕ) → Option (List ℕ) → Ending → Type 0
+EndsCounted text old new Done = Appends old new text
+EndsCounted text old new Refused = ⊥
+EndsCounted text old new (BadInput role e) = ⊥
+EndsCounted text old new NoMemory = Keeps old new
+EndsCounted text old new (CannotRead role) = Keeps old new
+EndsCounted text old new CannotWrite = AppendsPrefix old new text
+
+-- a check of these files ends so, with details or without: the ending is as it says, and an archive
+-- is counted unless a write, memory or a read of a file fails
+pub record Checks (details : Bool) (files : Files) (old new : Option (List ℕ))
+    (ending : Ending) : Type 0 where
+  pub says : CheckSays details files old new ending
+  pub only : (c : Contents) (known : IsKnownArchive files c)
+      → EndsCounted (known_text details files c known) old new ending

@@ -1,6 +1,7 @@
 -- What is said of an ending where an explanation is asked for. This project's own.
 use Rattle.std.specs.Prelude.{◌≡◌, ◌⊎◌, ℕ, Bool, true, false, List, [], ◌++◌, Option, Some, None}
-use Rattle.std.specs.Prelude.{IfSome, IsSome, IsSomeAnd, String, option_and_then, string_bytes}
+use Rattle.std.specs.Prelude.{IfSome, IsSome, IsSomeAnd, String, option_and_then, option_map}
+use Rattle.std.specs.Prelude.{string_bytes}
 use Rattle.std.specs.declared.alloc.Global.{Global}
 use Rattle.std.specs.Io.KnownBytes.{Appends}
 use Rattle.td_bytes.specs.Pieces.{AppendsPrefix}
@@ -12,7 +13,8 @@ use Rattle.td_explain.specs.declared.packing.Packing.{Packing}
 use Rattle.td_indices.specs.Fields.{relation_field_name}
 use Rattle.td_indices.specs.declared.archive_fault.RelationField.{RelationField}
 use Rattle.td_report.specs.Report.{all_shown}
-use Rattle.td_words.specs.Asked.{plan_words, run_words, track_words, waves_words}
+use Rattle.td_words.specs.Asked.{check_words, plan_words, run_words, track_words, waves_words}
+use Rattle.td_words.specs.CheckWords.{CheckWords}
 use Rattle.td_words.specs.CommandLine.{RunWords, TrackWords, WavesWords}
 use Rattle.td_words.specs.PlanWords.{PlanWords}
 use Rattle.td_words.specs.declared.request.Request.{Request}
@@ -49,6 +51,17 @@ archive_paths archs packages sources State = None
 archive_paths archs packages sources Tracker = None
 archive_paths archs packages sources Outcomes = None
 archive_paths archs packages sources Journal = None
+
+-- the paths of the files of a check, by role
+abbrev pub check_paths : CheckWords → Role → Option (List ℕ)
+check_paths w Input = None
+check_paths w Archs = Some w.archs
+check_paths w Packages = Some w.packages
+check_paths w Sources = Some w.sources
+check_paths w State = None
+check_paths w Tracker = w.tracker
+check_paths w Outcomes = None
+check_paths w Journal = None
 
 -- the paths of a report's files, by role
 abbrev pub track_paths : TrackWords → Role → Option (List ℕ)
@@ -129,9 +142,7 @@ known_input known role = record { path = None; text = input_of known role }
 -- the paths that a request has
 abbrev pub paths_of : Request → Role → Option (List ℕ)
 paths_of asked.Simulate role = None
-paths_of (asked.Check files) role =
-    archive_paths (string_bytes files.archs) (string_bytes files.packages)
-    (string_bytes files.sources) role
+paths_of (asked.Check r) role = check_paths (check_words r) role
 paths_of (asked.Track r) role = track_paths (track_words r) role
 paths_of (asked.Waves r) role = waves_paths (waves_words r) role
 paths_of (asked.Plan r) role = plan_paths (plan_words r) role
@@ -142,9 +153,7 @@ paths_of (asked.Run r) role = run_paths (run_words r) role
 abbrev pub known_of_request : Request → Option (List ℕ) → (List ℕ → Option (List ℕ)) → Role
     → Given
 known_of_request asked.Simulate known bytes = known_input known
-known_of_request (asked.Check files) known bytes =
-    known_at bytes (archive_paths (string_bytes files.archs) (string_bytes files.packages)
-    (string_bytes files.sources))
+known_of_request (asked.Check r) known bytes = known_at bytes (check_paths (check_words r))
 known_of_request (asked.Track r) known bytes = known_at bytes (track_paths (track_words r))
 known_of_request (asked.Waves r) known bytes = known_at bytes (waves_paths (waves_words r))
 known_of_request (asked.Plan r) known bytes = known_at bytes (plan_paths (plan_words r))
@@ -215,15 +224,16 @@ ExplainsFault given role (BadOutcome n) line = ExplainsPlace given role (BadOutc
 ExplainsFault given role (Form e) line = ExplainsPlace given role (Form e) line
 
 -- a line explains the ending: that of a refused text by its fault; that of a file that isn't read
--- by its path and some cause, since no clause knows the disk; that of any other is empty
-abbrev pub Explains : (Role → Given) → Ending → List ℕ → Type 0
-Explains known Done line = line ≡ []
-Explains known Refused line = line ≡ []
-Explains known (BadInput role fault) line = ExplainsFault (known role) role fault line
-Explains known NoMemory line = line ≡ []
-Explains known (CannotRead role) line =
+-- by its path and some cause, since no clause knows the disk; that of lines that were answered is
+-- what is noted of them; that of any other is empty
+abbrev pub Explains : (Role → Given) → Option (List ℕ) → Ending → List ℕ → Type 0
+Explains known notes Done line = notes ≡ Some line
+Explains known notes Refused line = notes ≡ Some line
+Explains known notes (BadInput role fault) line = ExplainsFault (known role) role fault line
+Explains known notes NoMemory line = line ≡ []
+Explains known notes (CannotRead role) line =
     (cause : Option Cause) × (line ≡ unread_line role (known role).path cause)
-Explains known CannotWrite line = line ≡ []
+Explains known notes CannotWrite line = line ≡ []
 
 -- a line explains a fault in one text, which is the known one
 abbrev pub ExplainsFile : Option (List ℕ) → Role → InputFault → List ℕ → Type 0
@@ -242,11 +252,12 @@ IsTextKept ending input = Unit {0}
 
 -- what is written of an ending: its line, and after it the explanation if that is asked for; only a
 -- front of both, or of the line, if standard error, memory or another read fails
-abbrev pub SaysOf : Bool → (Role → Given) → Ending → Option (List ℕ) → Option (List ℕ) → Type 0
-SaysOf false known ending said_before said = AppendsPrefix said_before said (line_of ending)
-SaysOf true known ending said_before said =
+abbrev pub SaysOf : Bool → (Role → Given) → Option (List ℕ) → Ending → Option (List ℕ)
+    → Option (List ℕ) → Type 0
+SaysOf false known notes ending said_before said = AppendsPrefix said_before said (line_of ending)
+SaysOf true known notes ending said_before said =
     AppendsPrefix said_before said (line_of ending)
-    ⊎ ((line : List ℕ) × Explains known ending line
+    ⊎ ((line : List ℕ) × Explains known notes ending line
     × AppendsPrefix said_before said (line_of ending ++ line))
 
 -- ---- 3. whether all of it is written
@@ -265,13 +276,21 @@ IsUnseen place role input request = HasNoText role input request
 abbrev pub Causes : Type 0
 Causes = List ℕ → ℕ → Option Cause → Bool
 
--- there is no explanation to write: no text is refused or unread, the refused one isn't at hand, or
--- nothing more may be known of the unread one
-abbrev pub HasNone : Causes → Ending → Option (String Global) → Request → Type 0
-HasNone can_be (BadInput role fault) input request = IsUnseen (place_of fault) role input request
-HasNone can_be (CannotRead role) input request =
+-- there is no explanation to write: the refused text isn't at hand, nothing more may be known of
+-- the
+-- unread one, or nothing is noted of lines that were answered
+abbrev pub HasNoneOf : Causes → Ending → Ended → Request → Type 0
+HasNoneOf can_be Done ended request = ended.notes ≡ None
+HasNoneOf can_be Refused ended request = ended.notes ≡ None
+HasNoneOf can_be (BadInput role fault) ended request =
+    IsUnseen (place_of fault) role ended.input request
+HasNoneOf can_be (CannotRead role) ended request =
     IfSome (paths_of request role) (λ path. can_be path file_limit None ≡ true)
-HasNone can_be ending input request = Unit {0}
+HasNoneOf can_be NoMemory ended request = Unit {0}
+HasNoneOf can_be CannotWrite ended request = Unit {0}
+
+abbrev pub HasNone : Causes → Ended → Request → Type 0
+HasNone can_be ended request = HasNoneOf can_be ended.ending ended request
 
 -- a line tells a cause for which the file of this path may be unreadable
 abbrev pub TellsCause : Causes → List ℕ → Role → List ℕ → Type 0
@@ -305,10 +324,10 @@ abbrev pub SaysAll : Bool → (Role → Given) → Causes → Packings → Ended
 SaysAll false known can_be can_pack ended request said_before said =
     Appends said_before said (line_of ended.ending)
 SaysAll true known can_be can_pack ended request said_before said =
-    ((line : List ℕ) × Explains known ended.ending line
+    ((line : List ℕ) × Explains known (option_map string_bytes ended.notes) ended.ending line
     × TellsOwn can_be can_pack request ended.ending line
     × Appends said_before said (line_of ended.ending ++ line))
-    ⊎ (HasNone can_be ended.ending ended.input request
+    ⊎ (HasNone can_be ended request
     × Appends said_before said (line_of ended.ending))
 
 -- why a line isn't made from a file: memory runs out, or a read of it may fail so
@@ -329,11 +348,13 @@ FailsThere files Whole path e = e ≡ unexplained.NoMemory
 FailsThere files place path e = FailsFor files path e
 
 -- why a line isn't made of an ending: as of a refused text's fault, or only memory for a file that
--- isn't read; nothing for any other ending
+-- isn't read and for lines that were answered; nothing for any other ending
 abbrev pub FailsOf : (List ℕ → OneFile) → Request → Ending → Unexplained → Type 0
 FailsOf files request (BadInput role fault) e =
     FailsThere files (place_of fault) (paths_of request role) e
 FailsOf files request (CannotRead role) e = e ≡ unexplained.NoMemory
+FailsOf files request Done e = e ≡ unexplained.NoMemory
+FailsOf files request Refused e = e ≡ unexplained.NoMemory
 FailsOf files request ending e = ⊥
 
 -- the bytes of a line, if there is one

@@ -1,5 +1,6 @@
 -- What the contracts of this crate cite: a file a thing.
 pub mod Limits
+pub mod FolderFiles
 pub mod Ending
 pub mod Places
 pub mod Wanted
@@ -11,6 +12,7 @@ pub mod Counted
 pub mod Checks
 pub mod CheckInside
 pub mod Tracks
+pub mod CheckEnds
 pub mod UnreadFiles
 pub mod TrackInside
 pub mod Runs

@@ -15,20 +15,20 @@ use Rattle.td_words.specs.declared.request.WordsFault.{WordsFault}
 use Rattle.td_words.specs.declared.request.WordsFault.TheVariants as words_fault
 use Rattle.td_plan.specs.Lines.{Words}
 use Rattle.td_report.specs.Transition.{IsReportOf}
-use Rattle.td_words.specs.Asked.{Asks, builders_said, plan_words, request_words}
-use Rattle.td_words.specs.Asked.{run_words, track_said, track_words, waves_words}
-use Rattle.td_words.specs.CommandLine.{AskFor, HasFiles, HasTracker, TrackWords, WavesWords}
-use Rattle.td_words.specs.CommandLine.{is_explained, options_of}
-use Rattle.td_words.specs.PlanWords.{HasMessage, PlanWords, line_words_said}
+use Rattle.td_words.specs.Asked.{check_words, plan_words, request_words, run_words, track_words}
+use Rattle.td_words.specs.Asked.{waves_words}
+use Rattle.td_words.specs.CommandLine.{TrackWords, WavesWords, is_explained, options_of}
+use Rattle.td_words.specs.PlanWords.{PlanWords}
+use Rattle.td_tool.specs.FolderFiles.{AskFound, Causes, SaysWhich}
 use Rattle.td_tool.specs.declared.ending.Ending.{Ending}
 use Rattle.td_tool.specs.declared.ending.Ending.TheVariants.{NoMemory}
 use Rattle.td_tool.specs.Ending.{line_of}
 use Rattle.td_tool.specs.Ends.{Ends}
-use Rattle.td_tool.specs.Checks.{Checks, archive_files_at}
+use Rattle.td_tool.specs.CheckEnds.{CheckEnds}
 use Rattle.td_tool.specs.Tracks.{EndsSo, IsPlanWith, TrackFiles, track_files, waves_says}
-use Rattle.td_tool.specs.Runs.{EndsRun, run_files_asked}
+use Rattle.td_tool.specs.Runs.{AreNotes, EndsRun, run_files_asked}
 use Rattle.td_tool.specs.Explained.{known_of_request}
-use Rattle.td_tool.specs.Ran.{Ran}
+use Rattle.td_tool.specs.Ran.{NoNotes, Ran}
 use Rattle.td_tool.specs.Streams.{DueTo}
 
 -- ---- 1. words that ask for nothing
@@ -76,24 +76,10 @@ pub record TellsUnread (kind : ErrorKind) (said_before said : Option (List ℕ))
   pub memory : kind ≡ OutOfMemory → LacksMemory said_before said status
   pub other : kind ≢ OutOfMemory → IsBadWords no_words said_before said status
 
--- what is said of words with which nothing can be wrong but the number of a chunk, the list of
--- statuses, the number of builders, or what a plan's lines say: which there may be. All other
--- texts are `clap`'s, and no clause of it says what they are
-pub record SaysWhich (words : List (List ℕ)) (text : List ℕ) : Type 0 where
-  pub chunk : (archs packages sources tracker : List ℕ) → AskFor (codes "track") words
-      → HasTracker (options_of words) archs packages sources tracker
-      → text ≡ track_said (options_of words)
-  pub plan : (archs packages sources tracker message : List ℕ) → AskFor (codes "plan") words
-      → HasTracker (options_of words) archs packages sources tracker
-      → HasMessage (options_of words) message
-      → text ≡ line_words_said message
-  pub builders : (archs packages sources : List ℕ) → AskFor (codes "run") words
-      → HasFiles (options_of words) archs packages sources → text ≡ builders_said
-
 -- a text says that the words are bad, or memory has run out
-abbrev pub TellsWhy : List (List ℕ) → Option (List ℕ) → Option (List ℕ) → ℕ → Type 0
-TellsWhy words said_before said status =
-    ((text : List ℕ) × SaysWhich words text × IsBadWords text said_before said status)
+abbrev pub TellsWhy : Causes → List (List ℕ) → Option (List ℕ) → Option (List ℕ) → ℕ → Type 0
+TellsWhy can_be words said_before said status =
+    ((text : List ℕ) × SaysWhich can_be words text × IsBadWords text said_before said status)
     ⊎ LacksMemory said_before said status
 
 -- ---- 2. words that ask for a subcommand
@@ -129,8 +115,8 @@ words_asked w = record { message = w.message; suite = w.suite }
 abbrev pub EndsFor : Request → Option (List ℕ) → Option (List ℕ) → (List ℕ → Option (List ℕ))
     → (List ℕ → TextFault → Bool) → Option (List ℕ) → Option (List ℕ) → Ending → Type 0
 EndsFor Simulate known left bytes can_fail old new ending = Ends known old new ending
-EndsFor (Check files) known left bytes can_fail old new ending =
-    Checks (archive_files_at bytes can_fail files) old new ending
+EndsFor (Check r) known left bytes can_fail old new ending =
+    CheckEnds bytes can_fail (check_words r) old new ending
 EndsFor (Track r) known left bytes can_fail old new ending =
     EndsSo (IsReportOf r.shown) (files_asked bytes can_fail (track_words r)) old new ending
 EndsFor (Waves r) known left bytes can_fail old new ending =
@@ -142,19 +128,31 @@ EndsFor (Run r) known left bytes can_fail old new ending =
     EndsRun (run_files_asked bytes can_fail (run_words r)) (string_bytes r.suite) known left old
     new ending
 
+-- what may be noted of the lines of a request's script: only a run without builders has notes
+abbrev pub NotesFor : Request → Option (List ℕ) → (List ℕ → Option (List ℕ))
+    → (List ℕ → TextFault → Bool) → List ℕ → Type 0
+NotesFor Simulate known bytes can_fail = NoNotes
+NotesFor (Check files) known bytes can_fail = NoNotes
+NotesFor (Track r) known bytes can_fail = NoNotes
+NotesFor (Waves r) known bytes can_fail = NoNotes
+NotesFor (Plan r) known bytes can_fail = NoNotes
+NotesFor (Run r) known bytes can_fail =
+    AreNotes (run_files_asked bytes can_fail (run_words r)) (string_bytes r.suite) known
+
 -- the request ran, and is explained or not. It tells of a failed read or write of a stream only if
 -- that may fail
 abbrev pub RanFor : Request → Bool → Option (List ℕ) → Option (List ℕ)
     → (List ℕ → Option (List ℕ)) → (List ℕ → TextFault → Bool) → Bool → Bool → Option (List ℕ)
     → Option (List ℕ) → Option (List ℕ) → Option (List ℕ) → ℕ → Type 0
 RanFor request explained known left bytes can_fail reads writes old new said_before said status =
-    Ran (DueTo reads writes (EndsFor request known left bytes can_fail old new)) explained
-    (known_of_request request known bytes) said_before said status
+    Ran (DueTo reads writes (EndsFor request known left bytes can_fail old new))
+    (NotesFor request known bytes can_fail) explained (known_of_request request known bytes)
+    said_before said status
 
 -- a request has no builders, and waits for nobody
 abbrev pub HasNoBuilders : Request → Type 0
 HasNoBuilders Simulate = Unit {0}
-HasNoBuilders (Check files) = Unit {0}
+HasNoBuilders (Check r) = Unit {0}
 HasNoBuilders (Track r) = Unit {0}
 HasNoBuilders (Waves r) = Unit {0}
 HasNoBuilders (Plan r) = Unit {0}
@@ -164,18 +162,20 @@ HasNoBuilders (Run r) = r.builders ≡ 0
 -- run leaves it, `EndsRun` says
 abbrev pub LeavesInput : Request → Option (List ℕ) → Option (List ℕ) → Type 0
 LeavesInput Simulate known left = Unit {0}
-LeavesInput (Check files) known left = Keeps known left
+LeavesInput (Check r) known left = Keeps known left
 LeavesInput (Track r) known left = Keeps known left
 LeavesInput (Waves r) known left = Keeps known left
 LeavesInput (Plan r) known left = Keeps known left
 LeavesInput (Run r) known left = Unit {0}
 
--- the words ask for a request, and it ran; or the program says why not, reads and writes nothing
-abbrev pub OnlyIfAsked : List (List ℕ) → Option (List ℕ) → Option (List ℕ)
+-- the words ask for a request, by what may be found in the folder that they give, and it ran; or
+-- the program says why not, reads and writes nothing
+abbrev pub OnlyIfAsked : Causes → List (List ℕ) → Option (List ℕ) → Option (List ℕ)
     → (List ℕ → Option (List ℕ)) → (List ℕ → TextFault → Bool) → Bool → Bool → Option (List ℕ)
     → Option (List ℕ) → Option (List ℕ) → Option (List ℕ) → ℕ → Type 0
-OnlyIfAsked words known left bytes can_fail reads writes old new said_before said status =
-    ((request : Request) × Asks words (request_words request) × LeavesInput request known left
+OnlyIfAsked can_be words known left bytes can_fail reads writes old new said_before said status =
+    ((request : Request) × AskFound can_be words (request_words request)
+    × LeavesInput request known left
     × RanFor request (is_explained (options_of words)) known left bytes can_fail reads writes old
     new said_before said status)
-    ⊎ (TellsWhy words said_before said status × Keeps known left × Keeps old new)
+    ⊎ (TellsWhy can_be words said_before said status × Keeps known left × Keeps old new)

@@ -9,6 +9,8 @@ use Rattle.td_crew.specs.CrewText.{crew_tells}
 use Rattle.td_crew.specs.declared.running.CrewFault.{CrewFault}
 use Rattle.td_crew.specs.declared.running.CrewFault.TheVariants as crew
 use Rattle.td_query.specs.declared.tracker_fault.TrackerFault.{TrackerFault}
+use Rattle.td_lines.specs.Notes.{IsNoted}
+use Rattle.td_script.specs.Ends as script_ends
 use Rattle.td_script.specs.Ends.{IsScriptText, Says}
 use Rattle.td_inputs.specs.Inputs as script
 use Rattle.td_inputs.specs.declared.form_fault.FormFault.TheVariants as form
@@ -216,3 +218,11 @@ pub record EndsRun (files : RunFiles) (suite : List ℕ) (known left old new : O
   pub says : RunSays files suite known old new ending
   pub only : (x : Texts) → AreKnownTexts files x → OnlyPlayEnds files.builders x suite known ending
   pub untouched : tells_of_unread_file ending ≡ true → Keeps known left
+
+-- ---- 4. what is said of its lines
+
+-- the notes of the script that was read, over the texts that the files hold
+abbrev pub AreNotes : RunFiles → List ℕ → Option (List ℕ) → List ℕ → Type 0
+AreNotes files suite known notes =
+    (x : Texts) × AreTextsOf files x
+    × script_ends.Plays IsNoted (script_texts x suite) known (λ text refused. notes ≡ text)

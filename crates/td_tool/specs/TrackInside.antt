@@ -27,14 +27,14 @@ use Rattle.td_tool.specs.declared.track_files.TrackerTexts.{TrackerTexts}
 use Rattle.td_tool.specs.declared.tracking.Asked.{Asked}
 use Rattle.td_tool.specs.declared.steps_text.Order.{Order}
 use Rattle.td_tool.specs.declared.steps_text.Order.TheVariants.{Levels, Steps}
-use Rattle.td_tool.specs.declared.tracking.Asked.TheVariants.{Listed, Ordered, Planned}
+use Rattle.td_tool.specs.declared.tracking.Asked.TheVariants.{Listed, Ordered, Planned, Detailed}
 use Rattle.td_tool.specs.declared.tracking.Listing.{Listing}
 use Rattle.td_tool.specs.declared.tracking.Listing.TheVariants.{Report, Waves}
 use Rattle.td_tool.specs.declared.ending.Ending.{Ending}
 use Rattle.td_tool.specs.declared.ending.Ending.TheVariants.{NoMemory}
 use Rattle.td_tool.specs.Tracks.{AreReadable, AreRefused, AreTextsOf, EndsTold, FailsAt}
 use Rattle.td_tool.specs.Tracks.{IsPatternRefused, IsPlanWith, MayFail, OneFile, Saying, TextsEndSo}
-use Rattle.td_tool.specs.Tracks.{TextsSayIt, Texts, TrackFiles, track_files, waves_by}
+use Rattle.td_tool.specs.Tracks.{TextsSayIt, Texts, TrackFiles, details_says, track_files, waves_by}
 
 -- what a list of a transition says
 abbrev pub listed_of : Listing → Saying
@@ -51,6 +51,7 @@ abbrev pub saying_of : Asked → Saying
 saying_of (Listed listing) = listed_of listing
 saying_of (Ordered order) = ordered_of order
 saying_of (Planned words) = IsPlanWith (seen_words words)
+saying_of (Detailed cut) = details_says cut
 
 -- what is asked of a tracker where affected sources are listed by steps or by levels, with what each
 -- builds on or without

@@ -23,11 +23,12 @@ use Rattle.td_inputs.specs.declared.role.Role.TheVariants.{Input, Archs, Package
 use Rattle.td_inputs.specs.declared.role.Role.TheVariants.{Tracker, Outcomes, Journal}
 use Rattle.td_inputs.specs.declared.form_fault.FormFault.{FormFault}
 use Rattle.td_inputs.specs.declared.form_fault.FormFault.TheVariants as form
+use Rattle.td_tool.specs.declared.early_texts.CutOff.{CutOff}
 use Rattle.td_tool.specs.declared.ending.Ending.{Ending}
 use Rattle.td_tool.specs.declared.ending.Ending.TheVariants.{Done, Refused, BadInput, NoMemory}
 use Rattle.td_tool.specs.declared.ending.Ending.TheVariants.{CannotRead, CannotWrite}
 use Rattle.td_tool.specs.Ending.{ending_of_file, ending_of_form}
-use Rattle.td_tool.specs.Counted.{IsArchiveOf}
+use Rattle.td_tool.specs.Counted.{IsArchiveOf, cut_in, tracked_text}
 use Rattle.td_tool.specs.Checks.{AreTexts, FaultFits, Files, HasFailed, IsFileText, IsTextOf}
 use Rattle.td_tool.specs.Checks.{files_of}
 use Rattle.td_tool.specs.CheckInside.{WritesSo}
@@ -138,6 +139,15 @@ waves_by true true = λ c t rows text. IsStepsWhy c t text
 abbrev pub waves_says : WavesForm → Saying
 waves_says form = waves_by form.steps form.why
 
+-- the details of an archive, of whose indices these may be cut off, and what a tracker asks of it;
+-- they are of no rows
+abbrev pub details_says : CutOff → Saying
+details_says cut c t rows text = text ≡ tracked_text cut c t
+
+-- what texts say of that
+abbrev pub details_of : Texts → Saying
+details_of x = details_says (cut_in x.packages x.sources)
+
 -- the text that a tracker says over these rows
 abbrev pub TrackerSays : Saying → Contents → Table → List ℕ → List ℕ → Type 0
 TrackerSays Says c rows tracker text = (t : Tracking) × IsTracker tracker t × Says c t rows text
@@ -185,11 +195,12 @@ TextsEndSo Says x old new ending =
     ⊎ ((text : List ℕ) × TextsSayIt Says x text × WritesSo text old new ending)
 
 -- memory runs out, or a file isn't read, and nothing is written; or the texts end it
-abbrev pub SaysSo : Saying → TrackFiles → Option (List ℕ) → Option (List ℕ) → Ending → Type 0
+abbrev pub SaysSo : (Texts → Saying) → TrackFiles → Option (List ℕ) → Option (List ℕ) → Ending
+    → Type 0
 SaysSo Says files old new ending =
     ((ending ≡ NoMemory) × Keeps old new)
     ⊎ ((IsUnread files ending × Keeps old new)
-    ⊎ ((x : Texts) × AreTextsOf files x × TextsEndSo Says x old new ending))
+    ⊎ ((x : Texts) × AreTextsOf files x × TextsEndSo (Says x) x old new ending))
 
 -- ---- 5. what can't be refused
 
@@ -235,8 +246,14 @@ EndsTold Says x old new (CannotRead role) = Keeps old new
 EndsTold Says x old new CannotWrite =
     (text : List ℕ) × TextsSayIt Says x text × AppendsPrefix old new text
 
--- a run over these files ends so: the ending is as it says, and what readable texts say is written
-pub record EndsSo (Says : Saying) (files : TrackFiles) (old new : Option (List ℕ))
+-- a run over these files ends so: the ending is as it says, and what readable texts say, by what
+-- they are, is written
+pub record EndsBy (Says : Texts → Saying) (files : TrackFiles) (old new : Option (List ℕ))
     (ending : Ending) : Type 0 where
   pub says : SaysSo Says files old new ending
-  pub only : (x : Texts) → AreKnownTexts files x → AreReadable x → EndsTold Says x old new ending
+  pub only : (x : Texts) → AreKnownTexts files x → AreReadable x
+      → EndsTold (Says x) x old new ending
+
+-- a run ends so, by what is said alike of all texts
+abbrev pub EndsSo : Saying → TrackFiles → Option (List ℕ) → Option (List ℕ) → Ending → Type 0
+EndsSo Says files old new ending = EndsBy (λ x. Says) files old new ending

@@ -1,34 +1,39 @@
 //! The program: it does what its words ask for, and answers its status.
 ghost use Rattle.std.specs.Prelude.{◌≡◌, ◌≢◌, ◌≤◌, ℕ, List, length, map, IfSome, IfNone, codes};
 ghost use Rattle.std.specs.Prelude.{string_bytes, None, IsOkAnd, IfOk, IfErr, MatchResult};
+ghost use Rattle.std.specs.Prelude.{option_map};
 ghost use Rattle.std.specs.IoError.{error_kind};
 ghost use Rattle.std.specs.Prelude.{OnOk, OnErr, OnSome};
 ghost use Rattle.std.specs.Io.KnownBytes.{Appends, Keeps};
 ghost use Rattle.td_bytes.specs.Pieces.{AppendsPrefix};
 ghost use Rattle.td_report.specs.Transition.{IsReportOf};
-ghost use Rattle.td_words.specs.CommandLine.{AskFor, AskForCheck, AskForRun, AskForTrack};
-ghost use Rattle.td_words.specs.CommandLine.{AskForWaves, RunWords, TrackWords, WavesWords};
-ghost use Rattle.td_words.specs.CommandLine.{is_explained, options_of};
-ghost use Rattle.td_words.specs.PlanWords.{AskForPlan, PlanWords};
+ghost use Rattle.td_words.specs.CheckWords.{AskForCheck, CheckWords};
+ghost use Rattle.td_words.specs.CommandLine.{AskFor, RunWords, TrackWords};
+ghost use Rattle.td_words.specs.CommandLine.{WavesWords, is_explained, options_of};
+ghost use Rattle.td_words.specs.PlanWords.{PlanWords};
+ghost use Rattle.td_tool.specs.FolderFiles.{AsksForPlan, AsksForRun, AsksForTrack, AsksForWaves};
 ghost use Rattle.td_tool.specs.Ends.{Ends};
-ghost use Rattle.td_tool.specs.Checks.{Checks, files_of};
-ghost use Rattle.td_tool.specs.Explained.{IsKept, IsTextKept, archive_paths, known_at};
+ghost use Rattle.td_tool.specs.CheckEnds.{CheckEnds};
+ghost use Rattle.td_tool.specs.Explained.{IsKept, IsTextKept, check_paths, known_at};
 ghost use Rattle.td_tool.specs.Explained.{known_input, known_of_request, plan_paths, run_paths};
 ghost use Rattle.td_tool.specs.Explained.{track_paths, waves_paths};
 ghost use Rattle.td_tool.specs.Limits.{input_limit};
-ghost use Rattle.td_tool.specs.Ran.{Ran};
-ghost use Rattle.td_tool.specs.Program.{EndsFor, HasNoBuilders, IsTold, LeavesInput, OnlyIfAsked};
+ghost use Rattle.td_tool.specs.Ran.{NoNotes, Ran};
+ghost use Rattle.td_tool.specs.Program.{EndsFor, HasNoBuilders, IsTold, LeavesInput, NotesFor};
+ghost use Rattle.td_tool.specs.Program.{OnlyIfAsked};
 ghost use Rattle.td_tool.specs.Program.{RanFor};
 ghost use Rattle.td_tool.specs.Program.{TellsFault, TellsUnread, are_explained, fault_text};
 ghost use Rattle.td_tool.specs.Program.{files_asked, plan_files, unread_text, waves_files};
 ghost use Rattle.td_tool.specs.Program.{words_asked};
-ghost use Rattle.td_tool.specs.Runs.{EndsRun, run_files_asked};
+ghost use Rattle.td_tool.specs.Runs.{AreNotes, EndsRun, run_files_asked};
 ghost use Rattle.td_tool.specs.Streams.{DueTo, IsDue};
 ghost use Rattle.td_tool.specs.Tracks.{EndsSo, IsPlanWith, waves_says};
 
-use crate::checking::check;
+use crate::checks::check_asked;
 use crate::ending::{Ended, Ending};
 use crate::explaining::finish;
+use crate::folder_files::read_call;
+use crate::noting::run_explained;
 use crate::planning::plan;
 use crate::running::{run_alone, run_with_builders};
 use crate::simulation::read_and_play;
@@ -41,7 +46,7 @@ use std::io::ErrorKind;
 use std::sync::Wait;
 use std::thread::Threads;
 use td_bytes::{Reader, WriteFault, Writer, write_whole};
-use td_words::{Call, Request, RunRequest, WordsFault, read_words};
+use td_words::{Call, Request, RunRequest, WordsFault};
 
 /// The status if the words ask for nothing that can be done.
 pub const BAD_WORDS: u8 = 3;
@@ -121,10 +126,12 @@ pub fn crew_of(request: &Request) -> Option<&RunRequest>
     }
 }
 
-// Does what was asked for without builders.
+// Does what was asked for without builders, and says what there is to say of a script's lines if
+// that is to be explained.
 fn do_alone<T: Texts + Sync, R: Reader, W: Writer>(
     rt: &(impl Threads + Sync),
     alloc: Global,
+    explained: bool,
     request: &Request,
     texts: &T,
     reader: &mut R,
@@ -142,10 +149,13 @@ fn do_alone<T: Texts + Sync, R: Reader, W: Writer>(
     ensures text { request.now ≡ Request.Simulate → IsTextKept result.ending result.input }
     ensures steady { OnSome result.input (R.can_fail reader.new ≡ R.can_fail reader.old) }
     ensures input { LeavesInput request.now (R.remaining reader.old) (R.remaining reader.new) }
+    ensures noted { IfSome (option_map string_bytes result.notes)
+        (NotesFor request.now (R.remaining reader.old) (T.bytes texts.now)
+        (T.can_fail texts.now)) }
 {
     match request {
         Request::Simulate => read_and_play(alloc, reader, output),
-        Request::Check(files) => check(rt, alloc, texts, files, output).alone(),
+        Request::Check(request) => check_asked(rt, alloc, texts, request, output).alone(),
         Request::Track(request) => {
             let paths = TrackPaths {
                 files: &request.files,
@@ -165,7 +175,9 @@ fn do_alone<T: Texts + Sync, R: Reader, W: Writer>(
             track(rt, alloc, texts, &paths, asked, output).alone()
         }
         Request::Plan(request) => plan(rt, alloc, texts, request, output).alone(),
-        Request::Run(request) => run_alone(rt, alloc, texts, request, reader, output).alone(),
+        Request::Run(request) => {
+            run_explained(rt, alloc, explained, texts, request, reader, output)
+        }
     }
 }
 
@@ -190,7 +202,15 @@ pub fn answer_alone<T: Texts + Sync, R: Reader, W: Writer, E: Writer>(
     ensures input { LeavesInput call.now.request
         (R.remaining reader.old) (R.remaining reader.new) }
 {
-    let ended = do_alone(rt, alloc, &call.request, texts, reader, output);
+    let ended = do_alone(
+        rt,
+        alloc,
+        call.explained,
+        &call.request,
+        texts,
+        reader,
+        output,
+    );
     finish(alloc, call.explained, &ended, &call.request, texts, faults)
 }
 
@@ -215,6 +235,9 @@ fn do_with_builders<T: Texts + Sync, R: Reader, W: Writer>(
         (known_of_request request.now (R.remaining reader.old) (T.bytes texts.now)) result.input }
     ensures short { IfSome result.input (λ kept. length (string_bytes kept) ≤ input_limit) }
     ensures input { LeavesInput request.now (R.remaining reader.old) (R.remaining reader.new) }
+    ensures noted { IfSome (option_map string_bytes result.notes)
+        (NotesFor request.now (R.remaining reader.old) (T.bytes texts.now)
+        (T.can_fail texts.now)) }
 {
     run_with_builders(rt, alloc, texts, run, reader, output).alone()
 }
@@ -290,48 +313,51 @@ fn answer<T: Texts + Sync, R: Reader, W: Writer, E: Writer>(
     ensures simulate { AskFor (codes "simulate") (map string_bytes words.now)
         → Ran (DueTo (R.can_fail reader.old) (W.can_fail output.old)
         (Ends (R.remaining reader.old) (W.contents output.old) (W.contents output.new)))
-        (is_explained (options_of (map string_bytes words.now)))
+        NoNotes (is_explained (options_of (map string_bytes words.now)))
         (known_input (R.remaining reader.old))
         (E.contents faults.old) (E.contents faults.new) result }
-    ensures check { (archs packages sources : List ℕ)
-        → AskForCheck (map string_bytes words.now) archs packages sources
+    ensures check { (w : CheckWords) → AskForCheck (map string_bytes words.now) w
         → Ran (DueTo (R.can_fail reader.old) (W.can_fail output.old)
-        (Checks (files_of (T.bytes texts.now) (T.can_fail texts.now) archs packages sources)
+        (CheckEnds (T.bytes texts.now) (T.can_fail texts.now) w
         (W.contents output.old) (W.contents output.new)))
-        (is_explained (options_of (map string_bytes words.now)))
-        (known_at (T.bytes texts.now) (archive_paths archs packages sources))
+        NoNotes (is_explained (options_of (map string_bytes words.now)))
+        (known_at (T.bytes texts.now) (check_paths w))
         (E.contents faults.old) (E.contents faults.new) result }
-    ensures track { (w : TrackWords) → AskForTrack (map string_bytes words.now) w
+    ensures track { (w : TrackWords)
+        → AsksForTrack (T.can_be texts.now) (map string_bytes words.now) w
         → Ran (DueTo (R.can_fail reader.old) (W.can_fail output.old)
         (EndsSo (IsReportOf w.shown) (files_asked (T.bytes texts.now) (T.can_fail texts.now) w)
         (W.contents output.old) (W.contents output.new)))
-        (is_explained (options_of (map string_bytes words.now)))
+        NoNotes (is_explained (options_of (map string_bytes words.now)))
         (known_at (T.bytes texts.now) (track_paths w))
         (E.contents faults.old) (E.contents faults.new) result }
-    ensures waves { (w : WavesWords) → AskForWaves (map string_bytes words.now) w
+    ensures waves { (w : WavesWords)
+        → AsksForWaves (T.can_be texts.now) (map string_bytes words.now) w
         → Ran (DueTo (R.can_fail reader.old) (W.can_fail output.old)
         (EndsSo (waves_says w.form) (waves_files (T.bytes texts.now) (T.can_fail texts.now) w)
         (W.contents output.old) (W.contents output.new)))
-        (is_explained (options_of (map string_bytes words.now)))
+        NoNotes (is_explained (options_of (map string_bytes words.now)))
         (known_at (T.bytes texts.now) (waves_paths w))
         (E.contents faults.old) (E.contents faults.new) result }
-    ensures plan { (w : PlanWords) → AskForPlan (map string_bytes words.now) w
+    ensures plan { (w : PlanWords) → AsksForPlan (T.can_be texts.now) (map string_bytes words.now) w
         → Ran (DueTo (R.can_fail reader.old) (W.can_fail output.old)
         (EndsSo (IsPlanWith (words_asked w))
         (plan_files (T.bytes texts.now) (T.can_fail texts.now) w)
         (W.contents output.old) (W.contents output.new)))
-        (is_explained (options_of (map string_bytes words.now)))
+        NoNotes (is_explained (options_of (map string_bytes words.now)))
         (known_at (T.bytes texts.now) (plan_paths w))
         (E.contents faults.old) (E.contents faults.new) result }
-    ensures run { (w : RunWords) → AskForRun (map string_bytes words.now) w
+    ensures run { (w : RunWords) → AsksForRun (T.can_be texts.now) (map string_bytes words.now) w
         → Ran (DueTo (R.can_fail reader.old) (W.can_fail output.old)
         (EndsRun (run_files_asked (T.bytes texts.now) (T.can_fail texts.now) w) w.suite
         (R.remaining reader.old) (R.remaining reader.new)
         (W.contents output.old) (W.contents output.new)))
+        (AreNotes (run_files_asked (T.bytes texts.now) (T.can_fail texts.now) w) w.suite
+        (R.remaining reader.old))
         (is_explained (options_of (map string_bytes words.now)))
         (known_at (T.bytes texts.now) (run_paths w))
         (E.contents faults.old) (E.contents faults.new) result }
-    ensures others { OnlyIfAsked (map string_bytes words.now)
+    ensures others { OnlyIfAsked (T.can_be texts.now) (map string_bytes words.now)
         (R.remaining reader.old) (R.remaining reader.new)
         (T.bytes texts.now) (T.can_fail texts.now)
         (R.can_fail reader.old) (W.can_fail output.old)
@@ -341,7 +367,7 @@ fn answer<T: Texts + Sync, R: Reader, W: Writer, E: Writer>(
     act(
         rt,
         alloc,
-        read_words(alloc, words),
+        read_call(alloc, words, texts),
         texts,
         reader,
         output,
@@ -365,52 +391,54 @@ pub fn tool<T: Texts + Sync, R: Reader, W: Writer, E: Writer>(
         AskFor (codes "simulate") (map string_bytes given.items))
         → Ran (DueTo (R.can_fail reader.old) (W.can_fail output.old)
         (Ends (R.remaining reader.old) (W.contents output.old) (W.contents output.new)))
-        (are_explained words) (known_input (R.remaining reader.old))
+        NoNotes (are_explained words) (known_input (R.remaining reader.old))
         (E.contents faults.old) (E.contents faults.new) result }
-    // What asks for the check of three files is answered by it.
-    ensures check { (archs packages sources : List ℕ) → IsOkAnd words (λ given.
-        AskForCheck (map string_bytes given.items) archs packages sources)
+    // What asks for a check, with a tracker or without, is answered by it.
+    ensures check { (w : CheckWords) → IsOkAnd words (λ given.
+        AskForCheck (map string_bytes given.items) w)
         → Ran (DueTo (R.can_fail reader.old) (W.can_fail output.old)
-        (Checks (files_of (T.bytes texts.now) (T.can_fail texts.now) archs packages sources)
+        (CheckEnds (T.bytes texts.now) (T.can_fail texts.now) w
         (W.contents output.old) (W.contents output.new)))
-        (are_explained words) (known_at (T.bytes texts.now) (archive_paths archs packages sources))
+        NoNotes (are_explained words) (known_at (T.bytes texts.now) (check_paths w))
         (E.contents faults.old) (E.contents faults.new) result }
     // What asks for a report, or for waves, is answered by them.
     ensures track { (w : TrackWords) → IsOkAnd words (λ given.
-        AskForTrack (map string_bytes given.items) w)
+        AsksForTrack (T.can_be texts.now) (map string_bytes given.items) w)
         → Ran (DueTo (R.can_fail reader.old) (W.can_fail output.old)
         (EndsSo (IsReportOf w.shown) (files_asked (T.bytes texts.now) (T.can_fail texts.now) w)
         (W.contents output.old) (W.contents output.new)))
-        (are_explained words) (known_at (T.bytes texts.now) (track_paths w))
+        NoNotes (are_explained words) (known_at (T.bytes texts.now) (track_paths w))
         (E.contents faults.old) (E.contents faults.new) result }
     ensures waves { (w : WavesWords) → IsOkAnd words (λ given.
-        AskForWaves (map string_bytes given.items) w)
+        AsksForWaves (T.can_be texts.now) (map string_bytes given.items) w)
         → Ran (DueTo (R.can_fail reader.old) (W.can_fail output.old)
         (EndsSo (waves_says w.form) (waves_files (T.bytes texts.now) (T.can_fail texts.now) w)
         (W.contents output.old) (W.contents output.new)))
-        (are_explained words) (known_at (T.bytes texts.now) (waves_paths w))
+        NoNotes (are_explained words) (known_at (T.bytes texts.now) (waves_paths w))
         (E.contents faults.old) (E.contents faults.new) result }
     // What asks for a plan is answered by it.
     ensures plan { (w : PlanWords) → IsOkAnd words (λ given.
-        AskForPlan (map string_bytes given.items) w)
+        AsksForPlan (T.can_be texts.now) (map string_bytes given.items) w)
         → Ran (DueTo (R.can_fail reader.old) (W.can_fail output.old)
         (EndsSo (IsPlanWith (words_asked w))
         (plan_files (T.bytes texts.now) (T.can_fail texts.now) w)
         (W.contents output.old) (W.contents output.new)))
-        (are_explained words) (known_at (T.bytes texts.now) (plan_paths w))
+        NoNotes (are_explained words) (known_at (T.bytes texts.now) (plan_paths w))
         (E.contents faults.old) (E.contents faults.new) result }
     // What asks for a run is answered by it.
     ensures run { (w : RunWords) → IsOkAnd words (λ given.
-        AskForRun (map string_bytes given.items) w)
+        AsksForRun (T.can_be texts.now) (map string_bytes given.items) w)
         → Ran (DueTo (R.can_fail reader.old) (W.can_fail output.old)
         (EndsRun (run_files_asked (T.bytes texts.now) (T.can_fail texts.now) w) w.suite
         (R.remaining reader.old) (R.remaining reader.new)
         (W.contents output.old) (W.contents output.new)))
-        (are_explained words) (known_at (T.bytes texts.now) (run_paths w))
+        (AreNotes (run_files_asked (T.bytes texts.now) (T.can_fail texts.now) w) w.suite
+        (R.remaining reader.old)) (are_explained words) (known_at (T.bytes texts.now) (run_paths w))
         (E.contents faults.old) (E.contents faults.new) result }
     // Other words are bad, unless memory runs out, and nothing is written. Standard input is read
     // only for a simulation and for a run.
-    ensures others { IfOk words (λ given. OnlyIfAsked (map string_bytes given.items)
+    ensures others { IfOk words (λ given.
+        OnlyIfAsked (T.can_be texts.now) (map string_bytes given.items)
         (R.remaining reader.old) (R.remaining reader.new)
         (T.bytes texts.now) (T.can_fail texts.now)
         (R.can_fail reader.old) (W.can_fail output.old)

@@ -31,11 +31,13 @@ pub enum Ending {
     CannotWrite,
 }
 
-/// How a run ended, with the text of standard input if it was kept.
+/// How a run ended, with the text of standard input if it was kept, and what is said of the lines
+/// of a script.
 #[derive(Drop)]
 pub struct Ended {
     pub ending: Ending,
     pub input: Option<String>,
+    pub notes: Option<String>,
 }
 
 /// How a run ends if no text is read from standard input.
@@ -110,13 +112,14 @@ pub fn ending_of_stop(fault: RunFault) -> Ending
 }
 
 impl Ending {
-    /// A run that ended so, with no text kept.
+    /// A run that ended so, with no text kept and nothing said of lines.
     pub fn alone(self) -> Ended
-        ensures { result ≡ record { ending = self; input = None } }
+        ensures { result ≡ record { ending = self; input = None; notes = None } }
     {
         Ended {
             ending: self,
             input: None,
+            notes: None,
         }
     }
 

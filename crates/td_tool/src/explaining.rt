@@ -1,5 +1,5 @@
 //! The explanation of a refusal, or of a file that can't be read: a second line on standard error,
-//! if one is asked for.
+//! if one is asked for. That of a script's lines is a line for each.
 ghost use Rattle.std.specs.Prelude.{◌≡◌, ◌⊎◌, ◌≤◌, ◌<◌, ◌^◌, ℕ, List, Option, Some, None, Ok, Err};
 ghost use Rattle.std.specs.Prelude.{IfOk, IfErr, IfSome, IsSomeAnd, MatchResult, OnOk, length};
 ghost use Rattle.std.specs.Prelude.{option_copied, option_map, string_bytes, true};
@@ -59,7 +59,10 @@ fn path_of(request: &Request, role: Role) -> Option<&String>
 {
     match request {
         Request::Simulate => None,
-        Request::Check(files) => archive_path(role, files),
+        Request::Check(request) => match role {
+            Role::Tracker => request.tracker.as_ref(),
+            _ => archive_path(role, &request.files),
+        },
         Request::Track(request) => match role {
             Role::State => request.state.as_ref(),
             Role::Tracker => Some(&request.tracker),
@@ -335,7 +338,24 @@ fn explain_unread<T: Texts>(
     }
 }
 
-// The line that explains how a run ended, if a text was refused or a file wasn't read.
+// A copy of what is said of lines, if something is.
+fn copied(notes: &Option<String>) -> Result<Option<String>, Unexplained>
+    ensures line { IfOk result (λ told. IfSome told (λ line.
+        option_map string_bytes notes.now ≡ Some (string_bytes line))) }
+    ensures none { IfOk result (λ told. told ≡ None → notes.now ≡ None) }
+    ensures failed { IfErr result (λ e. e ≡ Unexplained.NoMemory) }
+{
+    let Some(notes) = notes else {
+        return Ok(None);
+    };
+    match notes.clone() {
+        Ok(notes) => Ok(Some(notes)),
+        Err(_) => Err(Unexplained::NoMemory),
+    }
+}
+
+// What explains how a run ended: the line of a text that was refused or of a file that wasn't read,
+// or what is said of the lines of a script.
 fn explanation<T: Texts>(
     alloc: Global,
     ended: &Ended,
@@ -346,13 +366,13 @@ fn explanation<T: Texts>(
     ensures line { (known : Option (List ℕ))
         → IsKept (known_of_request request.now known (T.bytes texts.now)) ended.now.input
         → IfOk result (λ told. IfSome told (λ line. Explains
-        (known_of_request request.now known (T.bytes texts.now)) ended.now.ending
-        (string_bytes line))) }
+        (known_of_request request.now known (T.bytes texts.now))
+        (option_map string_bytes ended.now.notes) ended.now.ending (string_bytes line))) }
     ensures own { IfOk result (λ told. IfSome told (λ line. TellsOwn
         (T.can_be texts.now) (T.can_pack texts.now) request.now ended.now.ending
         (string_bytes line))) }
     ensures none { IfOk result (λ told. told ≡ None
-        → HasNone (T.can_be texts.now) ended.now.ending ended.now.input request.now) }
+        → HasNone (T.can_be texts.now) ended.now request.now) }
     ensures failed { IfErr result (FailsOf
         (file_at (T.bytes texts.now) (T.can_fail texts.now)) request.now ended.now.ending) }
 {
@@ -361,7 +381,8 @@ fn explanation<T: Texts>(
             explain_fault(alloc, role, fault, &ended.input, request, texts)
         }
         Ending::CannotRead(role) => explain_unread(alloc, role, request, texts),
-        Ending::Done | Ending::Refused | Ending::NoMemory | Ending::CannotWrite => Ok(None),
+        Ending::Done | Ending::Refused => copied(&ended.notes),
+        Ending::NoMemory | Ending::CannotWrite => Ok(None),
     }
 }
 
@@ -409,7 +430,8 @@ fn say<T: Texts, E: Writer>(
         ended.now.ending e) }
     ensures front { (known : Option (List ℕ))
         → IsKept (known_of_request request.now known (T.bytes texts.now)) ended.now.input
-        → SaysOf explained (known_of_request request.now known (T.bytes texts.now)) ended.now.ending
+        → SaysOf explained (known_of_request request.now known (T.bytes texts.now))
+        (option_map string_bytes ended.now.notes) ended.now.ending
         (E.contents faults.old) (E.contents faults.new) }
 {
     let Ok(()) = ended.ending.tell(faults) else {
@@ -435,7 +457,8 @@ pub fn finish<T: Texts, E: Writer>(
     ensures status { result ≡ status_of ended.now.ending }
     ensures says { (known : Option (List ℕ))
         → IsKept (known_of_request request.now known (T.bytes texts.now)) ended.now.input
-        → SaysOf explained (known_of_request request.now known (T.bytes texts.now)) ended.now.ending
+        → SaysOf explained (known_of_request request.now known (T.bytes texts.now))
+        (option_map string_bytes ended.now.notes) ended.now.ending
         (E.contents faults.old) (E.contents faults.new) }
 {
     let _ = say(alloc, explained, ended, request, texts, faults);

@@ -2,13 +2,15 @@
 //!
 //! Start at `tool`: it does what the words ask for, and may wait if that is a run with builders.
 //! `answer_alone` does all else, `simulate` is that subcommand by itself; these wait for nobody.
-//! `Texts` is where `tool` finds files. Its subcommands are `simulation`, `checking`, `tracking`
-//! for those that read a tracker (`planning` is one of them), and `running`. `td_simulate` reads and
-//! plays a simulation, `td_indices` reads indices, `td_plan` makes a plan, `td_script` answers a
-//! script, and `td_words` knows what the words ask for.
+//! `Texts` is where `tool` finds files. Its subcommands are `simulation`, `checks`, `tracking`
+//! for those that read a tracker (`planning` is one of them, and a check with a tracker another),
+//! and `running`. `td_simulate` reads and plays a simulation, `td_indices` reads indices,
+//! `td_details` says what is odd about them, `td_plan` makes a plan, `td_script` answers a script,
+//! `td_lines` says what there is to say of its lines (`noting`), and `td_words` knows what the
+//! words ask for.
 //! Promised: what is written is the answer to what was read, and nothing if that is refused; a
 //! write that fails leaves a front of it; the status and the line on standard error say which
-//! (`specs/Ends.antt`, `specs/Checks.antt`, `specs/Tracks.antt`, `specs/Runs.antt`); and what
+//! (`specs/Ends.antt`, `specs/CheckEnds.antt`, `specs/Tracks.antt`, `specs/Runs.antt`); and what
 //! explains a refusal or a file that can't be read, if that is asked for, is the stated line, or
 //! a front of it (`specs/Explained.antt`).
 #![tactic(auto)]
@@ -16,11 +18,15 @@
 mod answering;
 mod cause;
 mod checking;
+mod checks;
+mod details_text;
 mod early_texts;
 mod ending;
 mod explaining;
 mod file_texts;
+mod folder_files;
 mod input_fault;
+mod noting;
 mod places;
 mod plan_text;
 mod planning;

@@ -25,7 +25,7 @@ use td_script::{Inputs, RunFault, ScriptEnd, run_script};
 use td_words::RunRequest;
 
 // How a run ends by how its script did.
-fn ending_of_script(end: Result<ScriptEnd, RunFault>) -> Ending
+pub(crate) fn ending_of_script(end: Result<ScriptEnd, RunFault>) -> Ending
     ensures { result ≡ ending_of_script_as end }
 {
     match end {
@@ -91,7 +91,7 @@ fn inputs_by(
 }
 
 // The inputs that the files of a run hold, or how the run ends without them.
-fn inputs_for<T: Texts + Sync>(
+pub(crate) fn inputs_for<T: Texts + Sync>(
     rt: &(impl Threads + Sync),
     alloc: Global,
     texts: &T,
@@ -108,7 +108,7 @@ fn inputs_for<T: Texts + Sync>(
 }
 
 // How the reader's script ends, over its inputs. Nobody builds at the same time.
-fn play_alone<R: Reader, W: Writer>(
+pub(crate) fn play_alone<R: Reader, W: Writer>(
     rt: &(impl Threads + Sync),
     alloc: Global,
     inputs: &Inputs,

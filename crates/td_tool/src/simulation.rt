@@ -6,7 +6,7 @@ ghost use Rattle.td_tool.specs.Ends.{Ends};
 ghost use Rattle.td_tool.specs.Explained.{IsTextKept, known_input};
 ghost use Rattle.td_tool.specs.Limits.{input_limit};
 ghost use Rattle.td_tool.specs.Played.{IsUnread, IsUntold, TellsSo, TextEnds, kept_of};
-ghost use Rattle.td_tool.specs.Ran.{Ran};
+ghost use Rattle.td_tool.specs.Ran.{NoNotes, Ran};
 ghost use Rattle.td_tool.specs.Streams.{DueTo, IsDue};
 
 use crate::ending::{Ended, Ending, ending_of_simulation, ending_of_text};
@@ -46,6 +46,7 @@ fn play<W: Writer>(alloc: Global, read: Result<String, TextFault>, output: &mut 
         IsUnread fault (W.contents output.old) (W.contents output.new) result.ending) }
     ensures due { OnOk read (IsDue false (W.can_fail output.old) result.ending) }
     ensures kept { result.input ≡ kept_of read }
+    ensures noted { result.notes ≡ None }
 {
     let text = match read {
         Ok(text) => text,
@@ -55,6 +56,7 @@ fn play<W: Writer>(alloc: Global, read: Result<String, TextFault>, output: &mut 
     Ended {
         ending,
         input: Some(text),
+        notes: None,
     }
 }
 
@@ -72,6 +74,7 @@ pub(crate) fn read_and_play<R: Reader, W: Writer>(
         IfSome (R.remaining reader.old) (λ all. all ≡ string_bytes kept)) }
     ensures short { IfSome result.input (λ kept. length (string_bytes kept) ≤ input_limit) }
     ensures text { IsTextKept result.ending result.input }
+    ensures noted { result.notes ≡ None }
 {
     let read = read_text(alloc, reader, INPUT_LIMIT, 0);
     play(alloc, read, output)
@@ -86,8 +89,8 @@ pub fn simulate<R: Reader, W: Writer, E: Writer>(
     faults: &mut E,
 ) -> u8
     ensures { Ran (DueTo (R.can_fail reader.old) (W.can_fail output.old)
-        (Ends (R.remaining reader.old) (W.contents output.old) (W.contents output.new))) false
-        (known_input (R.remaining reader.old)) (E.contents faults.old) (E.contents faults.new)
+        (Ends (R.remaining reader.old) (W.contents output.old) (W.contents output.new))) NoNotes
+        false (known_input (R.remaining reader.old)) (E.contents faults.old) (E.contents faults.new)
         result }
 {
     let ended = read_and_play(alloc, reader, output);

@@ -23,9 +23,9 @@ pub enum Order {
     Levels,
 }
 
-// That there are rows over which all is said: those that are given, or all with which the archive
-// opens. (None of these is made: no source is asked for.)
-fn rows_stand(archive: &Archive<'_, '_>, given: &Option<Rows>) -> Result<(), AllocError>
+/// That there are rows over which all is said: those that are given, or all with which the archive
+/// opens. (None of these is made: no source is asked for.)
+pub fn rows_stand(archive: &Archive<'_, '_>, given: &Option<Rows>) -> Result<(), AllocError>
     ensures { OnOk result ((rows : Table) × AreLookedAt archive.now given.now rows) }
 {
     let _none = archive.opening_rows_of(&[])?;

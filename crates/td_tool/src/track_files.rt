@@ -1,5 +1,6 @@
 //! The files of a tracker over an archive.
 ghost use Rattle.std.specs.Prelude.{IfOk, IfErr, option_map, string_bytes};
+ghost use Rattle.td_tool.specs.CheckInside.{AreFlags};
 ghost use Rattle.td_tool.specs.Tracks.{IsTextIfGiven, file_at};
 ghost use Rattle.td_tool.specs.TrackInside.{AreTextsRead, HasFailedAt, HasFailedIfGiven, files_at};
 
@@ -67,6 +68,7 @@ pub fn read_track_files<T: Texts + Sync>(
 ) -> Result<TrackTexts, FileFault>
     ensures texts { IfOk result (AreTextsRead
         (files_at (T.bytes texts.now) (T.can_fail texts.now) paths.now)) }
+    ensures cut { IfOk result (λ x. AreFlags x.indices) }
     ensures failed { IfErr result (HasFailedAt
         (files_at (T.bytes texts.now) (T.can_fail texts.now) paths.now)) }
 {

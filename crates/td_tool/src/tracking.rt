@@ -1,5 +1,5 @@
-//! The three subcommands that read a tracker: `track`, `waves` and `plan`.
-ghost use Rattle.std.specs.Prelude.{◌≡◌, ◌≤◌, None, Ok, Err, IfOk, IfErr, IfSome, true, length};
+//! What is asked of a tracker: `track`, `waves` and `plan`, and a check's details.
+ghost use Rattle.std.specs.Prelude.{◌≡◌, ◌≤◌, None, IfOk, IfErr, IfSome, true, length};
 ghost use Rattle.std.specs.Prelude.{string_bytes};
 ghost use Rattle.std.specs.Result.{ForOk};
 ghost use Rattle.td_inputs.specs.Opened.{texts_of as texts_opened};
@@ -8,13 +8,14 @@ ghost use Rattle.td_report.specs.Transition.{IsReportOf};
 ghost use Rattle.td_report.specs.TransitionView as of;
 ghost use Rattle.td_tool.specs.CheckInside.{FileUnread};
 ghost use Rattle.td_tool.specs.Limits.{file_limit};
-ghost use Rattle.td_tool.specs.Tracks.{EndsSo, as_script};
+ghost use Rattle.td_tool.specs.Tracks.{EndsBy, EndsSo, as_script, details_of};
 ghost use Rattle.td_tool.specs.TrackInside.{GivenSays, IsTableWithin, Tells, TellsTexts, WasOpened};
 ghost use Rattle.td_tool.specs.TrackInside.{asked_of, files_at, listed_of, saying_of, texts_of};
 ghost use Rattle.td_tool.specs.TrackInside.{texts_over};
 
-use crate::checking::write;
-use crate::early_texts::EarlyTexts;
+use crate::checking::{or_no_memory, write};
+use crate::details_text::opened_details;
+use crate::early_texts::{CutOff, EarlyTexts};
 use crate::ending::{Ending, ending_of_file, ending_of_opening};
 use crate::file_texts::FileFault;
 use crate::plan_text::opened_plan;
@@ -51,6 +52,9 @@ pub enum Asked<'w> {
     Ordered(Order),
     /// The plan, whose lines have this message and this suite.
     Planned(Words<'w>),
+    /// The details of the archive, of whose indices these may be cut off, and what the tracker asks
+    /// of it.
+    Detailed(CutOff),
 }
 
 /// What is asked of a tracker by the words of waves.
@@ -100,17 +104,6 @@ fn listed(
     match listing {
         Listing::Report(shown, chunk) => reported(rt, alloc, transition, rows, shown, chunk),
         Listing::Waves => transition.waves(alloc, rows),
-    }
-}
-
-// What was made, or the ending if memory ran out for it.
-fn or_no_memory<A: Drop>(made: Result<A, AllocError>) -> Result<A, Ending>
-    ensures ok { IfOk made (λ a. result ≡ Ok a) }
-    ensures err { IfErr made (λ _. result ≡ Err Ending.NoMemory) }
-{
-    match made {
-        Ok(made) => Ok(made),
-        Err(_) => Err(Ending::NoMemory),
     }
 }
 
@@ -201,6 +194,7 @@ fn opened_says<R: Threads + Sync>(
         Asked::Listed(listing) => opened_list(rt, alloc, opened, listing),
         Asked::Ordered(order) => opened_order(rt, alloc, opened, order),
         Asked::Planned(words) => opened_plan(rt, alloc, opened, &words),
+        Asked::Detailed(cut) => opened_details(alloc, opened, cut),
     }
 }
 
@@ -239,6 +233,7 @@ fn texts_say<R: Threads + Sync>(
         archs,
         packages,
         sources,
+        ..
     } = indices;
     let lent = lend(archs.as_str(), packages, sources, &over);
     let says = move |opened: Opened| -> Result<String, AllocError>
@@ -276,6 +271,38 @@ fn tell<R: Threads + Sync, W: Writer>(
         Err(unread) => return ending_of_file(unread.role, unread.fault),
     };
     write(texts_say(rt, alloc, read, asked), output)
+}
+
+// Which of the indices that were read may be cut off; if none were read, none.
+fn cut_of(read: &Result<TrackTexts, FileFault>) -> CutOff
+    ensures { IfOk read.now (λ x. result ≡ x.indices.cut) }
+{
+    match read {
+        Ok(read) => read.indices.cut,
+        Err(_) => CutOff {
+            packages: false,
+            sources: false,
+        },
+    }
+}
+
+/// Writes the details of the archive, and what the tracker of this path asks of it. All is read
+/// before anything is written.
+pub fn track_details<R: Threads + Sync, T: Texts + Sync, W: Writer>(
+    rt: &R,
+    alloc: Global,
+    texts: &T,
+    paths: &TrackPaths<'_>,
+    output: &mut W,
+) -> Ending
+    ensures ends { EndsBy details_of
+        (files_at (T.bytes texts.now) (T.can_fail texts.now) paths.now)
+        (W.contents output.old) (W.contents output.new) result }
+    ensures due { result ≡ Ending.CannotWrite → W.can_fail output.old ≡ true }
+{
+    let read = read_track_files(rt, alloc, texts, paths);
+    let cut = cut_of(&read);
+    tell(rt, alloc, read, Asked::Detailed(cut), output)
 }
 
 /// Writes what the tracker of this path says over the archive. All is read before anything is

@@ -1,4 +1,4 @@
--- What `clap` reads in the words that ask for the simulation, and in those that ask for a check.
+-- What `clap` reads in the words that ask for a simulation, a report, waves or a run.
 use Rattle.td_words.specs.declared.request.WordsFault.TheVariants.{NoMemory}
 use Rattle.td_words.specs.Asked.{IsUsage}
 use Rattle.std.proofs.Common.{◌≡◌, ℕ, Bool, true, false, List, [], ◌++◌, Option, Some, None, Result}
@@ -17,14 +17,16 @@ use Rattle.clap.specs.declared.parser.matches.ArgMatches.{ArgMatches}
 use Rattle.clap.proofs.OnLiterals.{clap_on_literals}
 use Rattle.td_report.specs.Report.{all_shown}
 use Rattle.td_report.specs.declared.shown.Shown.{Shown}
+use Rattle.td_words.specs.Folder.{path_if, path_in}
+use Rattle.td_words.specs.declared.present.Present.{Present}
 use Rattle.td_words.specs.declared.request.Call.{Call}
 use Rattle.td_words.specs.declared.request.Request.{Request}
-use Rattle.td_words.specs.CommandLine.{AskFor, AskForCheck, AskForRun, AskForTrack, AskForWaves}
-use Rattle.td_words.specs.CommandLine.{CheckWordsExplain, HasFiles, HasRun, HasTrack, HasTracker}
+use Rattle.td_words.specs.CommandLine.{AskFor, AskForRun, AskForTrack, AskForWaves}
+use Rattle.td_words.specs.CommandLine.{HasFiles, HasRun, HasTrack, HasTracker}
 use Rattle.td_words.specs.CommandLine.{HasWaves, WavesWords}
 use Rattle.td_words.specs.CommandLine.{PlainRunWordsAsk, RunWordsExplain, SimulationWordsAsk}
 use Rattle.td_words.specs.CommandLine.{TrackWords, TrackWordsAsk, TrackWordsExplain, WavesWordsAsk}
-use Rattle.td_words.specs.CommandLine.{WavesWordsExplain, WholeRunWordsAsk, asking_for_check}
+use Rattle.td_words.specs.CommandLine.{WavesWordsExplain, WholeRunWordsAsk}
 use Rattle.td_words.specs.CommandLine.{asking_for_plain_run, asking_for_track, asking_for_waves}
 use Rattle.td_words.specs.CommandLine.{chunk_in, desk, explaining, faults_of, is_explained}
 use Rattle.td_words.specs.CommandLine.{RunWords, builders_in, options_of, plain_run, rows_in}
@@ -78,28 +80,38 @@ asks_for_simulation program true = record { ask = (refl, refl); flag = refl }
 -- ---- what the options of a report and of a run are
 
 -- what is found of each option of a report
-abbrev pub AreOptions : List Row → List ℕ → List ℕ → List ℕ → List ℕ → Option (List ℕ)
+abbrev pub AreOptions : Present → List Row → List ℕ → List ℕ → List ℕ → List ℕ → Option (List ℕ)
     → Option (List ℕ) → Type 0
-AreOptions options a p s t state chunk =
-    (first_of (codes "archs") options ≡ Some a)
-    × (first_of (codes "packages") options ≡ Some p)
-    × (first_of (codes "sources") options ≡ Some s)
-    × (first_of (codes "tracker") options ≡ Some t)
-    × (first_of (codes "state") options ≡ state)
+AreOptions present options a p s t state chunk =
+    (path_in (codes "archs") options ≡ Some a)
+    × (path_in (codes "packages") options ≡ Some p)
+    × (path_in (codes "sources") options ≡ Some s)
+    × (path_if present.tracker (codes "tracker") options ≡ Some t)
+    × (path_if present.state (codes "state") options ≡ state)
     × (first_of (codes "chunk") options ≡ chunk)
     × (shown_in options ≡ Some all_shown)
 
-pub has_tracker : (options : List Row) (a p s t : List ℕ) → HasFiles options a p s
-    → first_of (codes "tracker") options ≡ Some t → HasTracker options a p s t
-has_tracker options a p s t files tracker = record { files = files; tracker_path = tracker }
+pub has_tracker : (present : Present) (options : List Row) (a p s t : List ℕ)
+    → HasFiles options a p s → path_if present.tracker (codes "tracker") options ≡ Some t
+    → HasTracker present options a p s t
+has_tracker present options a p s t files tracker = record { files = files; tracker_path = tracker }
 
 -- the options have the paths of an archive and of a tracker
-pub tracked : (options : List Row) (a p s t : List ℕ) → first_of (codes "archs") options ≡ Some a
-    → first_of (codes "packages") options ≡ Some p → first_of (codes "sources") options ≡ Some s
-    → first_of (codes "tracker") options ≡ Some t → HasTracker options a p s t
-tracked options a p s t archs packages sources tracker =
-    has_tracker options a p s t
+pub tracked : (present : Present) (options : List Row) (a p s t : List ℕ)
+    → path_in (codes "archs") options ≡ Some a → path_in (codes "packages") options ≡ Some p
+    → path_in (codes "sources") options ≡ Some s
+    → path_if present.tracker (codes "tracker") options ≡ Some t
+    → HasTracker present options a p s t
+tracked present options a p s t archs packages sources tracker =
+    has_tracker present options a p s t
     (record { archs_path = archs; packages_path = packages; sources_path = sources }) tracker
+
+-- the options have the paths of an archive
+pub archived : (options : List Row) (a p s : List ℕ) → path_in (codes "archs") options ≡ Some a
+    → path_in (codes "packages") options ≡ Some p → path_in (codes "sources") options ≡ Some s
+    → HasFiles options a p s
+archived options a p s archs packages sources =
+    record { archs_path = archs; packages_path = packages; sources_path = sources }
 
 -- waves with these values
 abbrev waves_as : List ℕ → List ℕ → List ℕ → List ℕ → Bool → Bool → WavesWords
@@ -111,10 +123,10 @@ waves_as a p s t steps why = record {
   form = record { steps = steps; why = why };
 }
 
-pub has_waves : (options : List Row) (w : WavesWords)
-    → HasTracker options w.archs w.packages w.sources w.tracker → form_in options ≡ w.form
-    → HasWaves options w
-has_waves options w files listed = record { files = files; listed = listed }
+pub has_waves : (present : Present) (options : List Row) (w : WavesWords)
+    → HasTracker present options w.archs w.packages w.sources w.tracker
+    → form_in options ≡ w.form → HasWaves present options w
+has_waves present options w files listed = record { files = files; listed = listed }
 
 -- a report with these values that shows every row
 abbrev pub whole_report : List ℕ → List ℕ → List ℕ → List ℕ → Option (List ℕ) → Option ℕ
@@ -129,12 +141,13 @@ whole_report a p s t state rows = record {
   chunk = rows;
 }
 
-pub has_track : (options : List Row) (a p s t : List ℕ) (state chunk : Option (List ℕ))
-    (rows : Option ℕ) → AreOptions options a p s t state chunk → chunk_in chunk ≡ Some rows
-    → HasTrack options (whole_report a p s t state rows)
-has_track options a p s t state chunk rows are same =
+pub has_track : (present : Present) (options : List Row) (a p s t : List ℕ)
+    (state chunk : Option (List ℕ)) (rows : Option ℕ)
+    → AreOptions present options a p s t state chunk → chunk_in chunk ≡ Some rows
+    → HasTrack present options (whole_report a p s t state rows)
+has_track present options a p s t state chunk rows are same =
     record {
-      files = has_tracker options a p s t
+      files = has_tracker present options a p s t
           (record { archs_path = are.0; packages_path = are.1; sources_path = are.2 }) are.3;
       state_path = are.4;
       statuses = are.6;
@@ -154,13 +167,15 @@ is_whole w all = λ i. record {
   chunk = w.chunk;
 }
 
-pub has_run : (options : List Row) (w : RunWords) → HasFiles options w.archs w.packages w.sources
-    → first_of (codes "state") options ≡ w.state → first_of (codes "tracker") options ≡ w.tracker
+pub has_run : (present : Present) (options : List Row) (w : RunWords)
+    → HasFiles options w.archs w.packages w.sources
+    → path_if present.state (codes "state") options ≡ w.state
+    → path_if present.tracker (codes "tracker") options ≡ w.tracker
     → suite_in (first_of (codes "suite") options) ≡ w.suite
     → builders_in (first_of (codes "builders") options) ≡ Some w.builders
     → first_of (codes "outcomes") options ≡ w.outcomes
-    → first_of (codes "journal") options ≡ w.journal → HasRun options w
-has_run options w files state tracker suite count outcomes journal =
+    → path_if present.journal (codes "journal") options ≡ w.journal → HasRun present options w
+has_run present options w files state tracker suite count outcomes journal =
     record {
       files = files;
       state_path = state;
@@ -174,64 +189,47 @@ has_run options w files state tracker suite count outcomes journal =
 -- the words of a whole run ask for it
 pub asks_for_whole_run : WholeRunWordsAsk
 unfolding clap_on_literals
-asks_for_whole_run program archs packages sources v count same = (
+asks_for_whole_run present program archs packages sources v count same = (
   (refl, refl),
-  (has_run _ _ (record { archs_path = refl; packages_path = refl; sources_path = refl })
+  (has_run present _ _ (record { archs_path = refl; packages_path = refl; sources_path = refl })
       refl refl refl same refl refl),
 )
 
 -- ---- with an explanation
 
-pub check_explains : CheckWordsExplain
-unfolding clap_on_literals
-check_explains = record { same = same; flag = flag }
-  where
-    same : (program archs packages sources : List ℕ) (explained : Bool)
-        → AskForCheck (asking_for_check program archs packages sources ++ explaining explained)
-        archs packages sources
-    same program archs packages sources false =
-        ((refl, refl), record { archs_path = refl; packages_path = refl; sources_path = refl })
-    same program archs packages sources true =
-        ((refl, refl), record { archs_path = refl; packages_path = refl; sources_path = refl })
-
-    flag : (program archs packages sources : List ℕ) (explained : Bool)
-        → is_explained (options_of
-        (asking_for_check program archs packages sources ++ explaining explained)) ≡ explained
-    flag program archs packages sources false = refl
-    flag program archs packages sources true = refl
-
-track_asked : (program a p s t : List ℕ) (state chunk : Option (List ℕ)) (explained : Bool)
+track_asked : (present : Present) (program a p s t : List ℕ) (state chunk : Option (List ℕ))
+    (explained : Bool)
     → (let words = asking_for_track program (whole_report a p s t state None) chunk
     ++ explaining explained in
-    AskFor (codes "track") words × AreOptions (options_of words) a p s t state chunk)
+    AskFor (codes "track") words × AreOptions present (options_of words) a p s t state chunk)
 unfolding clap_on_literals
-track_asked program a p s t None None false =
+track_asked present program a p s t None None false =
     ((refl, refl), (refl, refl, refl, refl, refl, refl, refl))
-track_asked program a p s t None (Some chunk) false =
+track_asked present program a p s t None (Some chunk) false =
     ((refl, refl), (refl, refl, refl, refl, refl, refl, refl))
-track_asked program a p s t (Some state) None false =
+track_asked present program a p s t (Some state) None false =
     ((refl, refl), (refl, refl, refl, refl, refl, refl, refl))
-track_asked program a p s t (Some state) (Some chunk) false =
+track_asked present program a p s t (Some state) (Some chunk) false =
     ((refl, refl), (refl, refl, refl, refl, refl, refl, refl))
-track_asked program a p s t None None true =
+track_asked present program a p s t None None true =
     ((refl, refl), (refl, refl, refl, refl, refl, refl, refl))
-track_asked program a p s t None (Some chunk) true =
+track_asked present program a p s t None (Some chunk) true =
     ((refl, refl), (refl, refl, refl, refl, refl, refl, refl))
-track_asked program a p s t (Some state) None true =
+track_asked present program a p s t (Some state) None true =
     ((refl, refl), (refl, refl, refl, refl, refl, refl, refl))
-track_asked program a p s t (Some state) (Some chunk) true =
+track_asked present program a p s t (Some state) (Some chunk) true =
     ((refl, refl), (refl, refl, refl, refl, refl, refl, refl))
 
-track_same : (program : List ℕ) (w : TrackWords) (chunk : Option (List ℕ)) (explained : Bool)
-    → chunk_in chunk ≡ Some w.chunk → w.shown ≡ all_shown
-    → AskForTrack (asking_for_track program w chunk ++ explaining explained) w
-track_same program w chunk explained same all =
+track_same : (present : Present) (program : List ℕ) (w : TrackWords) (chunk : Option (List ℕ))
+    (explained : Bool) → chunk_in chunk ≡ Some w.chunk → w.shown ≡ all_shown
+    → AskForTrack present (asking_for_track program w chunk ++ explaining explained) w
+track_same present program w chunk explained same all =
     let words = asking_for_track program w chunk ++ explaining explained in
-    let asked = track_asked program w.archs w.packages w.sources w.tracker w.state chunk explained
-    in (
+    let asked = track_asked present program w.archs w.packages w.sources w.tracker w.state chunk
+    explained in (
       asked.0,
-      subst (HasTrack (options_of words)) (is_whole w all)
-          (has_track (options_of words) w.archs w.packages w.sources w.tracker w.state chunk
+      subst (HasTrack present (options_of words)) (is_whole w all)
+          (has_track present (options_of words) w.archs w.packages w.sources w.tracker w.state chunk
           w.chunk asked.1 same),
     )
 
@@ -270,20 +268,20 @@ track_explains = record {
 pub shown_words_ask : ShownWordsAsk
 unfolding clap_on_literals
 shown_words_ask = record {
-  only = λ program a p s t list shown same. (
+  only = λ present program a p s t list shown same. (
     (refl, refl),
     record {
-      files = has_tracker _ _ _ _ _
+      files = has_tracker present _ _ _ _ _
           (record { archs_path = refl; packages_path = refl; sources_path = refl }) refl;
       state_path = refl;
       statuses = same;
       rows = refl;
     },
   );
-  summary = λ program a p s t. (
+  summary = λ present program a p s t. (
     (refl, refl),
     record {
-      files = has_tracker _ _ _ _ _
+      files = has_tracker present _ _ _ _ _
           (record { archs_path = refl; packages_path = refl; sources_path = refl }) refl;
       state_path = refl;
       statuses = refl;
@@ -297,22 +295,47 @@ unfolding clap_on_literals
 waves_explain = record { same = same; flag = flag }
   where
     -- the words that ask for the form of waves, in each form
-    of_form : (program a p s t : List ℕ) (steps why explained : Bool)
-        → AskForWaves (asking_for_waves program (waves_as a p s t steps why)
+    of_form : (present : Present) (program a p s t : List ℕ) (steps why explained : Bool)
+        → AskForWaves present (asking_for_waves program (waves_as a p s t steps why)
         ++ explaining explained) (waves_as a p s t steps why)
-    of_form program a p s t false false false = ((refl, refl), has_waves _ _ (tracked _ _ _ _ _ refl refl refl refl) refl)
-    of_form program a p s t false false true = ((refl, refl), has_waves _ _ (tracked _ _ _ _ _ refl refl refl refl) refl)
-    of_form program a p s t false true false = ((refl, refl), has_waves _ _ (tracked _ _ _ _ _ refl refl refl refl) refl)
-    of_form program a p s t false true true = ((refl, refl), has_waves _ _ (tracked _ _ _ _ _ refl refl refl refl) refl)
-    of_form program a p s t true false false = ((refl, refl), has_waves _ _ (tracked _ _ _ _ _ refl refl refl refl) refl)
-    of_form program a p s t true false true = ((refl, refl), has_waves _ _ (tracked _ _ _ _ _ refl refl refl refl) refl)
-    of_form program a p s t true true false = ((refl, refl), has_waves _ _ (tracked _ _ _ _ _ refl refl refl refl) refl)
-    of_form program a p s t true true true = ((refl, refl), has_waves _ _ (tracked _ _ _ _ _ refl refl refl refl) refl)
+    of_form present program a p s t false false false = (
+      (refl, refl),
+      has_waves present _ _ (tracked present _ _ _ _ _ refl refl refl refl) refl,
+    )
+    of_form present program a p s t false false true = (
+      (refl, refl),
+      has_waves present _ _ (tracked present _ _ _ _ _ refl refl refl refl) refl,
+    )
+    of_form present program a p s t false true false = (
+      (refl, refl),
+      has_waves present _ _ (tracked present _ _ _ _ _ refl refl refl refl) refl,
+    )
+    of_form present program a p s t false true true = (
+      (refl, refl),
+      has_waves present _ _ (tracked present _ _ _ _ _ refl refl refl refl) refl,
+    )
+    of_form present program a p s t true false false = (
+      (refl, refl),
+      has_waves present _ _ (tracked present _ _ _ _ _ refl refl refl refl) refl,
+    )
+    of_form present program a p s t true false true = (
+      (refl, refl),
+      has_waves present _ _ (tracked present _ _ _ _ _ refl refl refl refl) refl,
+    )
+    of_form present program a p s t true true false = (
+      (refl, refl),
+      has_waves present _ _ (tracked present _ _ _ _ _ refl refl refl refl) refl,
+    )
+    of_form present program a p s t true true true = (
+      (refl, refl),
+      has_waves present _ _ (tracked present _ _ _ _ _ refl refl refl refl) refl,
+    )
 
-    same : (program : List ℕ) (w : WavesWords) (explained : Bool)
-        → AskForWaves (asking_for_waves program w ++ explaining explained) w
-    same program w explained =
-        of_form program w.archs w.packages w.sources w.tracker w.form.steps w.form.why explained
+    same : (present : Present) (program : List ℕ) (w : WavesWords) (explained : Bool)
+        → AskForWaves present (asking_for_waves program w ++ explaining explained) w
+    same present program w explained =
+        of_form present program w.archs w.packages w.sources w.tracker w.form.steps w.form.why
+        explained
 
     is_flag : (program a p s t : List ℕ) (steps why explained : Bool)
         → is_explained (options_of
@@ -337,17 +360,18 @@ pub run_explains : RunWordsExplain
 unfolding clap_on_literals
 run_explains = record { same = same; flag = flag }
   where
-    same : (program archs packages sources : List ℕ) (explained : Bool)
-        → AskForRun (asking_for_plain_run program archs packages sources ++ explaining explained)
+    same : (present : Present) (program archs packages sources : List ℕ) (explained : Bool)
+        → AskForRun present
+        (asking_for_plain_run program archs packages sources ++ explaining explained)
         (plain_run archs packages sources)
-    same program archs packages sources false = (
+    same present program archs packages sources false = (
       (refl, refl),
-      (has_run _ _ (record { archs_path = refl; packages_path = refl; sources_path = refl })
+      (has_run present _ _ (record { archs_path = refl; packages_path = refl; sources_path = refl })
           refl refl refl refl refl refl),
     )
-    same program archs packages sources true = (
+    same present program archs packages sources true = (
       (refl, refl),
-      (has_run _ _ (record { archs_path = refl; packages_path = refl; sources_path = refl })
+      (has_run present _ _ (record { archs_path = refl; packages_path = refl; sources_path = refl })
           refl refl refl refl refl refl),
     )
 
@@ -359,24 +383,19 @@ run_explains = record { same = same; flag = flag }
 
 -- ---- without one
 
-pub asks_for_check : (program archs packages sources : List ℕ)
-    → AskForCheck (asking_for_check program archs packages sources) archs packages sources
-asks_for_check program archs packages sources =
-    check_explains.same program archs packages sources false
-
 pub asks_for_track : TrackWordsAsk
-asks_for_track program w chunk same all =
-    subst (λ words. AskForTrack words w) (append-nil (asking_for_track program w chunk))
-    (track_same program w chunk false same all)
+asks_for_track present program w chunk same all =
+    subst (λ words. AskForTrack present words w) (append-nil (asking_for_track program w chunk))
+    (track_same present program w chunk false same all)
 
 pub asks_for_waves : WavesWordsAsk
-asks_for_waves program w =
-    subst (λ words. AskForWaves words w) (append-nil (asking_for_waves program w))
-    (waves_explain.same program w false)
+asks_for_waves present program w =
+    subst (λ words. AskForWaves present words w) (append-nil (asking_for_waves program w))
+    (waves_explain.same present program w false)
 
 pub asks_for_plain_run : PlainRunWordsAsk
-asks_for_plain_run program archs packages sources =
-    run_explains.same program archs packages sources false
+asks_for_plain_run present program archs packages sources =
+    run_explains.same present program archs packages sources false
 
 -- ---- the matches of a subcommand
 
@@ -395,10 +414,11 @@ rows_of_matches m o p is same =
     go (Some q) e = ap (λ (r : Option (List Row)). unwrap_or r []) e
 
 -- what a subcommand asks for, the words do
-pub asks : (words : List (List ℕ)) (found : Option (List ℕ × List Row)) (asked : RequestWords)
-    → found ≡ subcommand_of desk words → faults_of words ≡ [] → IsGivenBy found asked
-    → Asks words asked
-asks words found asked same fine is = (fine, subst (λ o. IsGivenBy o asked) same is)
+pub asks : (present : Present) (words : List (List ℕ)) (found : Option (List ℕ × List Row))
+    (asked : RequestWords) → found ≡ subcommand_of desk words → faults_of words ≡ []
+    → IsGivenBy present found asked → Asks present words asked
+asks present words found asked same fine is =
+    (fine, subst (λ o. IsGivenBy present o asked) same is)
 
 -- what `clap` says of words by the command that was built, it says of them by `desk`
 pub said_of_words : (Says : App → Type 0) (built : App) → built ≡ desk

@@ -1,5 +1,7 @@
 -- What the proofs of this crate share: a file a thing.
 pub mod Asking
+pub mod CheckAsking
 pub mod PlanAsking
 pub mod Apart
 pub mod WordsApart
+pub mod FolderAsking

@@ -9,33 +9,37 @@ use Rattle.td_plan.specs.Message.{can_be_quoted, is_suite}
 use Rattle.td_plan.specs.declared.words.WordFault.{WordFault}
 use Rattle.td_plan.specs.declared.words.WordFault.TheVariants.{BadMessage, BadSuite}
 use Rattle.td_plan.specs.declared.words.Words.{Words}
-use Rattle.td_words.specs.CommandLine.{AskFor, desk, explaining, is_explained, options_of, suite_in}
+use Rattle.td_words.specs.CommandLine.{AskFor, explaining, is_explained, options_of, suite_in}
 use Rattle.td_words.specs.PlanWords.{AreLineWords, AskForPlan, HasPlan, PlanWords, PlanWordsAsk}
 use Rattle.td_words.specs.PlanWords.{PlanWordsExplain, asking_for_plan, line_words_said}
 use Rattle.td_words.specs.PlanWords.{message_said, suite_said}
+use Rattle.td_words.specs.declared.present.Present.{Present}
+use Rattle.td_words.specs.Folder.{path_if, path_in}
 use Rattle.td_words.specs.inner.Judged.{said_of}
 use Rattle.td_words.proofs.Asking.{has_tracker}
 
 -- ---- 1. what the options of a plan are
 
 -- what is found of each option of a plan
-abbrev pub ArePlanOptions : List Row → List ℕ → List ℕ → List ℕ → List ℕ → List ℕ
+abbrev pub ArePlanOptions : Present → List Row → List ℕ → List ℕ → List ℕ → List ℕ → List ℕ
     → Option (List ℕ) → Option (List ℕ) → Type 0
-ArePlanOptions options a p s t message state suite =
-    (first_of (codes "archs") options ≡ Some a)
-    × (first_of (codes "packages") options ≡ Some p)
-    × (first_of (codes "sources") options ≡ Some s)
-    × (first_of (codes "tracker") options ≡ Some t)
+ArePlanOptions present options a p s t message state suite =
+    (path_in (codes "archs") options ≡ Some a)
+    × (path_in (codes "packages") options ≡ Some p)
+    × (path_in (codes "sources") options ≡ Some s)
+    × (path_if present.tracker (codes "tracker") options ≡ Some t)
     × (first_of (codes "message") options ≡ Some message)
-    × (first_of (codes "state") options ≡ state)
+    × (path_if present.state (codes "state") options ≡ state)
     × (first_of (codes "suite") options ≡ suite)
 
-pub has_plan : (options : List Row) (w : PlanWords) (suite : Option (List ℕ))
-    → ArePlanOptions options w.archs w.packages w.sources w.tracker w.message w.state suite
-    → suite_in suite ≡ w.suite → AreLineWords w.message w.suite → HasPlan options w
-has_plan options w suite are same line_words =
+pub has_plan : (present : Present) (options : List Row) (w : PlanWords)
+    (suite : Option (List ℕ))
+    → ArePlanOptions present options w.archs w.packages w.sources w.tracker w.message w.state suite
+    → suite_in suite ≡ w.suite → AreLineWords w.message w.suite
+    → HasPlan present options w
+has_plan present options w suite are same line_words =
     record {
-      files = has_tracker options w.archs w.packages w.sources w.tracker
+      files = has_tracker present options w.archs w.packages w.sources w.tracker
           (record { archs_path = are.0; packages_path = are.1; sources_path = are.2 }) are.3;
       state_path = are.5;
       message_text = are.4;
@@ -45,7 +49,8 @@ has_plan options w suite are same line_words =
 
 -- ---- 2. joined words
 
-plan_asked : (program a p s t message : List ℕ) (state suite : Option (List ℕ)) (explained : Bool)
+plan_asked : (present : Present) (program a p s t message : List ℕ)
+    (state suite : Option (List ℕ)) (explained : Bool)
     → (let w : PlanWords = record {
       archs = a;
       packages = p;
@@ -56,33 +61,34 @@ plan_asked : (program a p s t message : List ℕ) (state suite : Option (List �
       suite = [];
     } in
     let words = asking_for_plan program w suite ++ explaining explained in
-    AskFor (codes "plan") words × ArePlanOptions (options_of words) a p s t message state suite)
+    AskFor (codes "plan") words × ArePlanOptions present (options_of words) a p s t message state
+    suite)
 unfolding clap_on_literals
-plan_asked program a p s t m None None false =
+plan_asked present program a p s t m None None false =
     ((refl, refl), (refl, refl, refl, refl, refl, refl, refl))
-plan_asked program a p s t m None (Some suite) false =
+plan_asked present program a p s t m None (Some suite) false =
     ((refl, refl), (refl, refl, refl, refl, refl, refl, refl))
-plan_asked program a p s t m (Some state) None false =
+plan_asked present program a p s t m (Some state) None false =
     ((refl, refl), (refl, refl, refl, refl, refl, refl, refl))
-plan_asked program a p s t m (Some state) (Some suite) false =
+plan_asked present program a p s t m (Some state) (Some suite) false =
     ((refl, refl), (refl, refl, refl, refl, refl, refl, refl))
-plan_asked program a p s t m None None true =
+plan_asked present program a p s t m None None true =
     ((refl, refl), (refl, refl, refl, refl, refl, refl, refl))
-plan_asked program a p s t m None (Some suite) true =
+plan_asked present program a p s t m None (Some suite) true =
     ((refl, refl), (refl, refl, refl, refl, refl, refl, refl))
-plan_asked program a p s t m (Some state) None true =
+plan_asked present program a p s t m (Some state) None true =
     ((refl, refl), (refl, refl, refl, refl, refl, refl, refl))
-plan_asked program a p s t m (Some state) (Some suite) true =
+plan_asked present program a p s t m (Some state) (Some suite) true =
     ((refl, refl), (refl, refl, refl, refl, refl, refl, refl))
 
-plan_same : (program : List ℕ) (w : PlanWords) (suite : Option (List ℕ)) (explained : Bool)
-    → suite_in suite ≡ w.suite → AreLineWords w.message w.suite
-    → AskForPlan (asking_for_plan program w suite ++ explaining explained) w
-plan_same program w suite explained same line_words =
+plan_same : (present : Present) (program : List ℕ) (w : PlanWords) (suite : Option (List ℕ))
+    (explained : Bool) → suite_in suite ≡ w.suite → AreLineWords w.message w.suite
+    → AskForPlan present (asking_for_plan program w suite ++ explaining explained) w
+plan_same present program w suite explained same line_words =
     let words = asking_for_plan program w suite ++ explaining explained in
-    let asked = plan_asked program w.archs w.packages w.sources w.tracker w.message w.state suite
-    explained in
-    (asked.0, has_plan (options_of words) w suite asked.1 same line_words)
+    let asked = plan_asked present program w.archs w.packages w.sources w.tracker w.message w.state
+    suite explained in
+    (asked.0, has_plan present (options_of words) w suite asked.1 same line_words)
 
 plan_flag : (program a p s t message : List ℕ) (state suite : Option (List ℕ)) (name : List ℕ)
     (explained : Bool)
@@ -116,9 +122,9 @@ plan_explains = record {
 }
 
 pub asks_for_plan : PlanWordsAsk
-asks_for_plan program w suite same line_words =
-    subst (λ words. AskForPlan words w) (append_nothing (asking_for_plan program w suite))
-    (plan_same program w suite false same line_words)
+asks_for_plan present program w suite same line_words =
+    subst (λ words. AskForPlan present words w) (append_nothing (asking_for_plan program w suite))
+    (plan_same present program w suite false same line_words)
   where
     append_nothing : (words : List (List ℕ)) → words ++ [] ≡ words
     append_nothing [] = refl

@@ -9,9 +9,10 @@ use Rattle.clap.specs.Kinds.{Kinds, or_else}
 use Rattle.clap.specs.Walk.{Row, finished, nothing_held, walk_from}
 use Rattle.clap.specs.Simple.{Shape, built, subcommand_of}
 use Rattle.clap.proofs.OnLiterals.{clap_on_literals}
-use Rattle.td_words.specs.CommandLine.{AskFor, AskForCheck, AskForTrack, DeskValues, HasFiles}
+use Rattle.td_words.specs.CheckWords.{HasCheck, SeparateWordsAsk, check_apart}
+use Rattle.td_words.specs.CommandLine.{AskFor, AskForTrack, DeskValues}
 use Rattle.td_words.specs.CommandLine.{HasRun, HasTrack, HasWaves, IsPlainPath}
-use Rattle.td_words.specs.CommandLine.{asking_apart, check_shape, chunk_in}
+use Rattle.td_words.specs.CommandLine.{check_shape, chunk_in}
 use Rattle.td_words.specs.CommandLine.{desk, faults_of, name_in, options_of, plain_run, plan_shape}
 use Rattle.td_words.specs.CommandLine.{rows_in, run_shape, suite_in, track_shape, waves_shape}
 use Rattle.td_words.specs.CommandLine.{whole_run}
@@ -21,8 +22,10 @@ use Rattle.td_words.specs.WordsApart.{AreDeskPlain, ArePlain, IsPlainIfGiven}
 use Rattle.td_words.specs.WordsApart.{SeparatePlainRunWordsAsk, SeparateTrackWordsAsk}
 use Rattle.td_words.specs.WordsApart.{SeparateWavesWordsAsk, SeparateWholeRunWordsAsk}
 use Rattle.td_words.specs.WordsApart.{plain_run_apart, track_apart, waves_apart, whole_run_apart}
+use Rattle.td_words.specs.declared.present.Present.{Present}
 use Rattle.td_words.proofs.Asking.{AreOptions, has_run, has_track, has_waves, is_whole, tracked}
 use Rattle.td_words.proofs.Asking.{whole_report}
+use Rattle.td_words.proofs.CheckAsking.{has_check}
 use Rattle.td_words.proofs.Apart.{Given, Opens, end_fault, ended, level_passes, stepped, walk_is}
 use Rattle.td_words.proofs.Apart.{words_of}
 use Rattle.td_words.proofs.PlanAsking.{ArePlanOptions, has_plan}
@@ -59,22 +62,22 @@ asked_by Has name b words gs enters fails ends opens has =
 
 -- ---- check
 
-pub asks_apart : (program archs packages sources : List ℕ) → IsPlainPath archs
-    → IsPlainPath packages → IsPlainPath sources
-    → AskForCheck (asking_apart program archs packages sources) archs packages sources
+pub asks_apart : SeparateWordsAsk
 unfolding clap_on_literals
-asks_apart program a p s pa pp ps =
-    asked_by (λ o. HasFiles o a p s) (codes "check") (built_as (codes "check") check_shape)
-    (asking_apart program a p s) (archive_given a p s []) refl refl refl
-    (refl, refl, pa, (refl, refl, pp, (refl, refl, ps, tt)))
-    (record { archs_path = refl; packages_path = refl; sources_path = refl })
+asks_apart program w plain none h =
+    asked_by (λ o. HasCheck o w) (codes "check") (built_as (codes "check") (check_shape false))
+    (check_apart program w) (archive_given w.archs w.packages w.sources []) refl refl refl
+    (refl, refl, h.archs_plain, (refl, refl, h.packages_plain, (refl, refl, h.sources_plain, tt)))
+    (has_check _ w (record { archs_path = refl; packages_path = refl; sources_path = refl })
+    (sym plain) (sym none) refl)
 
 -- ---- waves
 
 pub asks_for_waves_apart : SeparateWavesWordsAsk
 unfolding clap_on_literals
-asks_for_waves_apart program w levels h pt =
-    asked_by (λ o. HasWaves o w) (codes "waves") (built_as (codes "waves") waves_shape)
+asks_for_waves_apart present program w levels h pt =
+    asked_by (λ o. HasWaves present o w) (codes "waves")
+    (built_as (codes "waves") (waves_shape false))
     (waves_apart program w)
     (archive_given w.archs w.packages w.sources ((codes "tracker", w.tracker) ∷ [])) refl refl
     refl (
@@ -83,12 +86,12 @@ asks_for_waves_apart program w levels h pt =
       h.archs_plain,
       (refl, refl, h.packages_plain, (refl, refl, h.sources_plain, (refl, refl, pt, tt))),
     )
-    (has_waves _ w (tracked _ _ _ _ _ refl refl refl refl) (sym levels))
+    (has_waves present _ w (tracked present _ _ _ _ _ refl refl refl refl) (sym levels))
 
 -- ---- track
 
 abbrev built_track : Shape
-built_track = built_as (codes "track") track_shape
+built_track = built_as (codes "track") (track_shape false)
 
 abbrev if_given : List ℕ → Option (List ℕ) → List Given → List Given
 if_given name None more = more
@@ -98,7 +101,7 @@ abbrev track_more : List ℕ → Option (List ℕ) → Option (List ℕ) → Lis
 track_more t state chunk =
     (codes "tracker", t) ∷ if_given (codes "state") state (if_given (codes "chunk") chunk [])
 
-module _ (program a p s t : List ℕ) (rows : Option ℕ) (h : ArePlain a p s) where
+module _ (present : Present) (program a p s t : List ℕ) (rows : Option ℕ) (h : ArePlain a p s) where
   abbrev track_given : Option (List ℕ) → Option (List ℕ) → List Given
   track_given state chunk = archive_given a p s (track_more t state chunk)
 
@@ -122,19 +125,21 @@ module _ (program a p s t : List ℕ) (rows : Option ℕ) (h : ArePlain a p s) w
       ≡ entered (codes "track") built_track (track_given state chunk)
       → faults_of (track_words state chunk) ≡ faults_in built_track (track_given state chunk)
       → end_fault built_track (track_given state chunk) ≡ []
-      → AreOptions (finished built_track.rules (ended built_track (track_given state chunk)).held) a
+      → AreOptions present
+      (finished built_track.rules (ended built_track (track_given state chunk)).held) a
       p s t state chunk
       → Opens built_track (ended built_track (archive_given a p s [])) (track_more t state chunk)
-      → AskForTrack (track_words state chunk) (whole_report a p s t state rows)
+      → AskForTrack present (track_words state chunk) (whole_report a p s t state rows)
   track_by state chunk same enters fails ends are opens =
-      asked_by (λ o. HasTrack o (whole_report a p s t state rows)) (codes "track") built_track
+      asked_by (λ o. HasTrack present o (whole_report a p s t state rows))
+      (codes "track") built_track
       (track_words state chunk) (track_given state chunk) enters fails ends
       (track_archive (track_more t state chunk) opens)
-      (has_track _ a p s t state chunk rows are same)
+      (has_track present _ a p s t state chunk rows are same)
 
   track_asks : (state chunk : Option (List ℕ)) → chunk_in chunk ≡ Some rows → IsPlainPath t
       → IsPlainIfGiven state → IsPlainIfGiven chunk
-      → AskForTrack (track_words state chunk) (whole_report a p s t state rows)
+      → AskForTrack present (track_words state chunk) (whole_report a p s t state rows)
   unfolding clap_on_literals
   track_asks None None same pt ps pc =
       track_by None None same refl refl refl (refl, refl, refl, refl, refl, refl, refl)
@@ -150,15 +155,16 @@ module _ (program a p s t : List ℕ) (rows : Option ℕ) (h : ArePlain a p s) w
       (refl, refl, pt, (refl, refl, ps, (refl, refl, pc, tt)))
 
 pub asks_for_track_apart : SeparateTrackWordsAsk
-asks_for_track_apart program w chunk same all plain pt ps pc =
-    subst (AskForTrack (track_apart program w chunk)) (is_whole w all)
-    (track_asks program w.archs w.packages w.sources w.tracker w.chunk plain w.state chunk same pt
+asks_for_track_apart present program w chunk same all plain pt ps pc =
+    subst (AskForTrack present (track_apart program w chunk)) (is_whole w all)
+    (track_asks present program w.archs w.packages w.sources w.tracker w.chunk plain w.state chunk
+    same pt
     ps pc)
 
 -- ---- plan
 
 abbrev built_plan : Shape
-built_plan = built_as (codes "plan") plan_shape
+built_plan = built_as (codes "plan") (plan_shape false)
 
 abbrev plan_more : List ℕ → List ℕ → Option (List ℕ) → Option (List ℕ) → List Given
 plan_more t message state suite =
@@ -177,7 +183,7 @@ plan_words_with a p s t message name state = record {
   suite = name;
 }
 
-module _ (program a p s t message name : List ℕ) (h : ArePlain a p s) where
+module _ (present : Present) (program a p s t message name : List ℕ) (h : ArePlain a p s) where
   abbrev plan_given : Option (List ℕ) → Option (List ℕ) → List Given
   plan_given state suite = archive_given a p s (plan_more t message state suite)
 
@@ -201,20 +207,21 @@ module _ (program a p s t message name : List ℕ) (h : ArePlain a p s) where
       ≡ entered (codes "plan") built_plan (plan_given state suite)
       → faults_of (plan_words state suite) ≡ faults_in built_plan (plan_given state suite)
       → end_fault built_plan (plan_given state suite) ≡ []
-      → ArePlanOptions (finished built_plan.rules (ended built_plan (plan_given state suite)).held)
+      → ArePlanOptions present
+      (finished built_plan.rules (ended built_plan (plan_given state suite)).held)
       a p s t message state suite
       → Opens built_plan (ended built_plan (archive_given a p s []))
       (plan_more t message state suite)
-      → AskForPlan (plan_words state suite) (plan_words_with a p s t message name state)
+      → AskForPlan present (plan_words state suite) (plan_words_with a p s t message name state)
   plan_by state suite same line_words enters fails ends are opens =
-      asked_by (λ o. HasPlan o (plan_words_with a p s t message name state)) (codes "plan")
+      asked_by (λ o. HasPlan present o (plan_words_with a p s t message name state)) (codes "plan")
       built_plan (plan_words state suite) (plan_given state suite) enters fails ends
       (plan_archive (plan_more t message state suite) opens)
-      (has_plan _ (plan_words_with a p s t message name state) suite are same line_words)
+      (has_plan present _ (plan_words_with a p s t message name state) suite are same line_words)
 
   plan_asks : (state suite : Option (List ℕ)) → suite_in suite ≡ name → AreLineWords message name
       → IsPlainPath t → IsPlainPath message → IsPlainIfGiven state → IsPlainIfGiven suite
-      → AskForPlan (plan_words state suite) (plan_words_with a p s t message name state)
+      → AskForPlan present (plan_words state suite) (plan_words_with a p s t message name state)
   unfolding clap_on_literals
   plan_asks None None same fine pt pm ps pu =
       plan_by None None same fine refl refl refl (refl, refl, refl, refl, refl, refl, refl)
@@ -230,14 +237,15 @@ module _ (program a p s t message name : List ℕ) (h : ArePlain a p s) where
       (refl, refl, pt, (refl, refl, pm, (refl, refl, ps, (refl, refl, pu, tt))))
 
 pub asks_for_plan_apart : SeparatePlanWordsAsk
-asks_for_plan_apart program w suite same line_words plain pt pm ps pu =
-    plan_asks program w.archs w.packages w.sources w.tracker w.message w.suite plain w.state suite
+asks_for_plan_apart present program w suite same line_words plain pt pm ps pu =
+    plan_asks present program w.archs w.packages w.sources w.tracker w.message w.suite plain w.state
+    suite
     same line_words pt pm ps pu
 
 -- ---- run
 
 abbrev built_run : Shape
-built_run = built_as (codes "run") run_shape
+built_run = built_as (codes "run") (run_shape false)
 
 run_opens : (a p s : List ℕ) (more : List Given) → ArePlain a p s
     → Opens built_run (ended built_run (archive_given a p s [])) more
@@ -252,11 +260,11 @@ run_opens a p s more h opens = (
 
 pub asks_for_plain_run_apart : SeparatePlainRunWordsAsk
 unfolding clap_on_literals
-asks_for_plain_run_apart program a p s plain =
-    asked_by (λ o. HasRun o (plain_run a p s)) (codes "run") built_run
+asks_for_plain_run_apart present program a p s plain =
+    asked_by (λ o. HasRun present o (plain_run a p s)) (codes "run") built_run
     (plain_run_apart program a p s) (archive_given a p s []) refl refl refl
     (run_opens a p s [] plain tt)
-    (has_run _ _ (record { archs_path = refl; packages_path = refl; sources_path = refl })
+    (has_run present _ _ (record { archs_path = refl; packages_path = refl; sources_path = refl })
     refl refl refl refl refl refl)
 
 abbrev whole_more : DeskValues → List Given
@@ -292,9 +300,9 @@ whole_opens a p s v k = (
 
 pub asks_for_whole_run_apart : SeparateWholeRunWordsAsk
 unfolding clap_on_literals
-asks_for_whole_run_apart program a p s v count same plain desk_plain =
-    asked_by (λ o. HasRun o (whole_run a p s v count)) (codes "run") built_run
+asks_for_whole_run_apart present program a p s v count same plain desk_plain =
+    asked_by (λ o. HasRun present o (whole_run a p s v count)) (codes "run") built_run
     (whole_run_apart program a p s v) (archive_given a p s (whole_more v)) refl refl refl
     (run_opens a p s (whole_more v) plain (whole_opens a p s v desk_plain))
-    (has_run _ _ (record { archs_path = refl; packages_path = refl; sources_path = refl })
+    (has_run present _ _ (record { archs_path = refl; packages_path = refl; sources_path = refl })
     refl refl refl same refl refl)

@@ -3,8 +3,10 @@ use Rattle.std.specs.Prelude.{◌≡◌, ℕ, List, [], Bool, Option, Some, Resu
 use Rattle.std.specs.Prelude.{string_bytes, codes, if◌then◌else◌, is_some}
 use Rattle.clap.specs.Simple.{subcommand_of}
 use Rattle.clap.specs.Walk.{Row, first_of}
+use Rattle.td_words.specs.declared.present.Present.{Present}
 use Rattle.td_words.specs.declared.request.Call.{Call}
 use Rattle.td_words.specs.declared.request.ArchivePaths.{ArchivePaths}
+use Rattle.td_words.specs.declared.request.CheckRequest.{CheckRequest}
 use Rattle.td_words.specs.declared.request.TrackRequest.{TrackRequest}
 use Rattle.td_words.specs.declared.request.RunRequest.{RunRequest}
 use Rattle.td_words.specs.declared.request.PlanRequest.{PlanRequest}
@@ -16,8 +18,19 @@ use Rattle.td_words.specs.declared.request.WordsFault.{WordsFault}
 use Rattle.td_words.specs.declared.request.WordsFault.TheVariants.{Usage, NoMemory}
 use Rattle.td_words.specs.CommandLine.{HasFiles, HasRun, HasTrack, HasWaves, RunWords, TrackWords}
 use Rattle.td_words.specs.CommandLine.{WavesWords, chunk_in, desk, faults_of, name_in, rows_in}
+use Rattle.td_words.specs.CheckWords.{CheckWords, HasCheck}
 use Rattle.td_words.specs.PlanWords.{HasPlan, PlanWords}
 use Rattle.td_words.specs.ShownWords.{shown_said}
+
+-- what a check is asked for with, by the texts that say so
+abbrev pub check_words : CheckRequest → CheckWords
+check_words r = record {
+  archs = string_bytes r.files.archs;
+  packages = string_bytes r.files.packages;
+  sources = string_bytes r.files.sources;
+  details = r.details;
+  tracker = option_map string_bytes r.tracker;
+}
 
 -- what a report is asked for with, by the texts that say so
 abbrev pub track_words : TrackRequest → TrackWords
@@ -70,7 +83,7 @@ run_words r = record {
 -- what is asked for, by the texts that say so
 pub data RequestWords : Type 0 where
   simulation : RequestWords
-  check_of : (archs packages sources : List ℕ) → RequestWords
+  check_of : CheckWords → RequestWords
   report_of : TrackWords → RequestWords
   waves_of : WavesWords → RequestWords
   plan_of : PlanWords → RequestWords
@@ -79,28 +92,30 @@ pub data RequestWords : Type 0 where
 -- the texts of a request
 abbrev pub request_words : Request → RequestWords
 request_words Simulate = simulation
-request_words (Check files) =
-    check_of (string_bytes files.archs) (string_bytes files.packages) (string_bytes files.sources)
+request_words (Check r) = check_of (check_words r)
 request_words (Track r) = report_of (track_words r)
 request_words (Waves r) = waves_of (waves_words r)
 request_words (Plan r) = plan_of (plan_words r)
 request_words (Run r) = run_of (run_words r)
 
--- a subcommand asks for just this, with its options
-abbrev pub IsGivenBy : Option (List ℕ × List Row) → RequestWords → Type 0
-IsGivenBy found simulation = name_in found ≡ Some (codes "simulate")
-IsGivenBy found (check_of archs packages sources) =
-    (name_in found ≡ Some (codes "check")) × HasFiles (rows_in found) archs packages sources
-IsGivenBy found (report_of w) =
-    (name_in found ≡ Some (codes "track")) × HasTrack (rows_in found) w
-IsGivenBy found (waves_of w) =
-    (name_in found ≡ Some (codes "waves")) × HasWaves (rows_in found) w
-IsGivenBy found (plan_of w) = (name_in found ≡ Some (codes "plan")) × HasPlan (rows_in found) w
-IsGivenBy found (run_of w) = (name_in found ≡ Some (codes "run")) × HasRun (rows_in found) w
+-- a subcommand asks for just this, with its options, by what is in the folder
+abbrev pub IsGivenBy : Present → Option (List ℕ × List Row) → RequestWords → Type 0
+IsGivenBy present found simulation = name_in found ≡ Some (codes "simulate")
+IsGivenBy present found (check_of w) =
+    (name_in found ≡ Some (codes "check")) × HasCheck (rows_in found) w
+IsGivenBy present found (report_of w) =
+    (name_in found ≡ Some (codes "track")) × HasTrack present (rows_in found) w
+IsGivenBy present found (waves_of w) =
+    (name_in found ≡ Some (codes "waves")) × HasWaves present (rows_in found) w
+IsGivenBy present found (plan_of w) =
+    (name_in found ≡ Some (codes "plan")) × HasPlan present (rows_in found) w
+IsGivenBy present found (run_of w) =
+    (name_in found ≡ Some (codes "run")) × HasRun present (rows_in found) w
 
 -- the words of a command line ask for just this, and nothing is wrong with them
-abbrev pub Asks : List (List ℕ) → RequestWords → Type 0
-Asks words asked = (faults_of words ≡ []) × IsGivenBy (subcommand_of desk words) asked
+abbrev pub Asks : Present → List (List ℕ) → RequestWords → Type 0
+Asks present words asked =
+    (faults_of words ≡ []) × IsGivenBy present (subcommand_of desk words) asked
 
 -- ---- the parts of the reading
 

@@ -2,7 +2,6 @@
 use Rattle.std.specs.Prelude.{◌≡◌, ◌==◌, ℕ, nat_lt, true, false, List, [], ◌∷◌, ◌++◌, Bool, Option}
 use Rattle.std.specs.Prelude.{Some, None, option_map, unwrap_or, codes, if◌then◌else◌}
 use Rattle.std.specs.Option.{option_map_or}
-use Rattle.std.specs.Str.{bytes_eq}
 use Rattle.td_text.specs.Chain.{◌>>=◌}
 use Rattle.td_text.specs.Numbers.{number_at}
 use Rattle.clap.specs.declared.builder.action.ArgAction.TheVariants.{SetTrue}
@@ -13,12 +12,16 @@ use Rattle.clap.specs.Simple.{App, Shape, new_app, new_rule, on_top, subcommand_
 use Rattle.clap.specs.Simple.{with_rule, with_subcommand}
 use Rattle.td_report.specs.Report.{all_shown}
 use Rattle.td_report.specs.declared.shown.Shown.{Shown}
+use Rattle.td_words.specs.declared.present.Present.{Present}
 use Rattle.td_words.specs.declared.request.WavesForm.{WavesForm}
+use Rattle.td_words.specs.Folder.{path_if, path_in}
 use Rattle.td_words.specs.ShownWords.{form_in, is_set, none_shown, shown_in, statuses_at}
 
--- an option that has to be there, once, with one value
-abbrev pub needed_option : List ℕ → Rule
-needed_option name = record (new_rule name) { long = Some name; value_names = 1; required = true }
+-- an option with one value that something needs. `clap` wants it only if the command line is read
+-- strictly: that is for what is said of bad words, since a folder may give it too
+abbrev pub needed_option : Bool → List ℕ → Rule
+needed_option strict name =
+    record (new_rule name) { long = Some name; value_names = 1; required = strict }
 
 -- an option without a value, given once or not at all
 abbrev pub flag_of : List ℕ → Rule
@@ -36,48 +39,59 @@ simulate_shape = (with_explanation (new_app (codes "simulate"))).top
 abbrev pub option_of : List ℕ → Rule
 option_of name = record (new_rule name) { long = Some name; value_names = 1 }
 
--- the files of an archive
-abbrev pub with_archive_rules : App → App
-with_archive_rules a =
-    with_rule (with_rule (with_rule a (needed_option (codes "archs")))
-    (needed_option (codes "packages"))) (needed_option (codes "sources"))
+-- the files of an archive, and a folder that may have them
+abbrev pub with_archive_rules : Bool → App → App
+with_archive_rules strict a =
+    with_rule (with_rule (with_rule (with_rule a (needed_option strict (codes "archs")))
+    (needed_option strict (codes "packages"))) (needed_option strict (codes "sources")))
+    (option_of (codes "folder"))
+
+-- `check` may be asked for details, and be given a tracker for them
+abbrev pub with_check_rules : Bool → App → App
+with_check_rules strict a =
+    with_rule (with_rule (with_archive_rules strict a) (flag_of (codes "details")))
+    (option_of (codes "tracker"))
 
 -- the subcommand `check`, which needs these files
-abbrev pub check_shape : Shape
-check_shape = (with_explanation (with_archive_rules (new_app (codes "check")))).top
+abbrev pub check_shape : Bool → Shape
+check_shape strict = (with_explanation (with_check_rules strict (new_app (codes "check")))).top
 
 -- `track`, `waves` and `plan` need a tracker too
-abbrev pub with_tracker_rules : App → App
-with_tracker_rules a = with_rule (with_archive_rules a) (needed_option (codes "tracker"))
+abbrev pub with_tracker_rules : Bool → App → App
+with_tracker_rules strict a =
+    with_rule (with_archive_rules strict a) (needed_option strict (codes "tracker"))
 
 -- `waves` may be asked for steps, and for what each source builds on
-abbrev pub with_form_rules : App → App
-with_form_rules a =
-    with_rule (with_rule (with_tracker_rules a) (flag_of (codes "steps"))) (flag_of (codes "why"))
+abbrev pub with_form_rules : Bool → App → App
+with_form_rules strict a =
+    with_rule (with_rule (with_tracker_rules strict a) (flag_of (codes "steps")))
+    (flag_of (codes "why"))
 
 -- the subcommand `waves`, which needs the files of an archive and a tracker
-abbrev pub waves_shape : Shape
-waves_shape = (with_explanation (with_form_rules (new_app (codes "waves")))).top
+abbrev pub waves_shape : Bool → Shape
+waves_shape strict = (with_explanation (with_form_rules strict (new_app (codes "waves")))).top
 
 -- `track` may be given other rows, of which statuses rows are shown, and how many rows a chunk has
-abbrev pub with_report_rules : App → App
-with_report_rules a =
-    with_rule (with_rule (with_rule (with_rule (with_tracker_rules a) (option_of (codes "state")))
-    (option_of (codes "only"))) (flag_of (codes "summary"))) (option_of (codes "chunk"))
+abbrev pub with_report_rules : Bool → App → App
+with_report_rules strict a =
+    with_rule (with_rule (with_rule (with_rule (with_tracker_rules strict a)
+    (option_of (codes "state"))) (option_of (codes "only"))) (flag_of (codes "summary")))
+    (option_of (codes "chunk"))
 
 -- the subcommand `track`
-abbrev pub track_shape : Shape
-track_shape = (with_explanation (with_report_rules (new_app (codes "track")))).top
+abbrev pub track_shape : Bool → Shape
+track_shape strict = (with_explanation (with_report_rules strict (new_app (codes "track")))).top
 
 -- a plan needs a message too, and may be given other rows, and the suite that its lines name
-abbrev pub with_plan_rules : App → App
-with_plan_rules a =
-    with_rule (with_rule (with_rule (with_tracker_rules a) (needed_option (codes "message")))
-    (option_of (codes "state"))) (option_of (codes "suite"))
+abbrev pub with_plan_rules : Bool → App → App
+with_plan_rules strict a =
+    with_rule (with_rule (with_rule (with_tracker_rules strict a)
+    (needed_option strict (codes "message"))) (option_of (codes "state")))
+    (option_of (codes "suite"))
 
 -- the subcommand `plan`, which needs the files of an archive, a tracker and a message
-abbrev pub plan_shape : Shape
-plan_shape = (with_explanation (with_plan_rules (new_app (codes "plan")))).top
+abbrev pub plan_shape : Bool → Shape
+plan_shape strict = (with_explanation (with_plan_rules strict (new_app (codes "plan")))).top
 
 -- `run` may be given rows, a tracker and a suite as well as an archive
 abbrev pub with_desk_rules : App → App
@@ -92,10 +106,10 @@ with_crew_rules a =
     (option_of (codes "outcomes"))) (option_of (codes "journal"))
 
 -- the subcommand `run`, which needs the files of an archive and may be given all of these
-abbrev pub run_shape : Shape
-run_shape =
+abbrev pub run_shape : Bool → Shape
+run_shape strict =
     (with_explanation
-    (with_crew_rules (with_desk_rules (with_archive_rules (new_app (codes "run")))))).top
+    (with_crew_rules (with_desk_rules (with_archive_rules strict (new_app (codes "run")))))).top
 
 -- the program has a version, and wants one of its subcommands
 abbrev pub bare_desk : App
@@ -103,11 +117,17 @@ bare_desk = on_top (λ s. record s { has_version = true; subcommand_required = t
     (new_app (codes "transdesk"))
 
 -- the program with its subcommands
+abbrev pub desk_by : Bool → App
+desk_by strict =
+    let counting = with_subcommand (with_subcommand bare_desk simulate_shape) (check_shape strict)
+    in
+    let tracking = with_subcommand (with_subcommand counting (track_shape strict))
+    (waves_shape strict) in
+    with_subcommand (with_subcommand tracking (plan_shape strict)) (run_shape strict)
+
+-- the command line that says what words ask for
 abbrev pub desk : App
-desk =
-    let counting = with_subcommand (with_subcommand bare_desk simulate_shape) check_shape in
-    let tracking = with_subcommand (with_subcommand counting track_shape) waves_shape in
-    with_subcommand (with_subcommand tracking plan_shape) run_shape
+desk = desk_by false
 
 -- the name of the subcommand that was found, if any
 abbrev pub name_in : Option (List ℕ × List Row) → Option (List ℕ)
@@ -158,21 +178,17 @@ SimulationWordsAsk =
     → AskExplained (codes "simulate") explained
     (asking_for program (codes "simulate") ++ explaining explained)
 
--- the three options have these paths
+-- the options give these paths to the three files
 pub record HasFiles (options : List Row) (archs packages sources : List ℕ) : Type 0 where
-  pub archs_path : first_of (codes "archs") options ≡ Some archs
-  pub packages_path : first_of (codes "packages") options ≡ Some packages
-  pub sources_path : first_of (codes "sources") options ≡ Some sources
+  pub archs_path : path_in (codes "archs") options ≡ Some archs
+  pub packages_path : path_in (codes "packages") options ≡ Some packages
+  pub sources_path : path_in (codes "sources") options ≡ Some sources
 
--- the words ask for a check, and give the paths of these three files
-abbrev pub AskForCheck : List (List ℕ) → List ℕ → List ℕ → List ℕ → Type 0
-AskForCheck words archs packages sources =
-    AskFor (codes "check") words × HasFiles (options_of words) archs packages sources
-
--- the options of `track`, `waves` or `plan` have these paths
-pub record HasTracker (options : List Row) (archs packages sources tracker : List ℕ) : Type 0 where
+-- the options of `track`, `waves` or `plan` have these paths, by what is in the folder
+pub record HasTracker (present : Present) (options : List Row)
+    (archs packages sources tracker : List ℕ) : Type 0 where
   pub files : HasFiles options archs packages sources
-  pub tracker_path : first_of (codes "tracker") options ≡ Some tracker
+  pub tracker_path : path_if present.tracker (codes "tracker") options ≡ Some tracker
 
 -- what waves are asked for with
 pub record WavesWords : Type 0 where
@@ -183,13 +199,13 @@ pub record WavesWords : Type 0 where
   pub form : WavesForm
 
 -- the options of `waves` are these
-pub record HasWaves (options : List Row) (w : WavesWords) : Type 0 where
-  pub files : HasTracker options w.archs w.packages w.sources w.tracker
+pub record HasWaves (present : Present) (options : List Row) (w : WavesWords) : Type 0 where
+  pub files : HasTracker present options w.archs w.packages w.sources w.tracker
   pub listed : form_in options ≡ w.form
 
 -- the words ask for these waves
-abbrev pub AskForWaves : List (List ℕ) → WavesWords → Type 0
-AskForWaves words w = AskFor (codes "waves") words × HasWaves (options_of words) w
+abbrev pub AskForWaves : Present → List (List ℕ) → WavesWords → Type 0
+AskForWaves present words w = AskFor (codes "waves") words × HasWaves present (options_of words) w
 
 -- how many rows a piece of the report has: 1 to 1000000
 abbrev pub chunk_at : List ℕ → Option ℕ
@@ -211,15 +227,15 @@ pub record TrackWords : Type 0 where
   pub chunk : Option ℕ
 
 -- the options of `track` are these
-pub record HasTrack (options : List Row) (w : TrackWords) : Type 0 where
-  pub files : HasTracker options w.archs w.packages w.sources w.tracker
-  pub state_path : first_of (codes "state") options ≡ w.state
+pub record HasTrack (present : Present) (options : List Row) (w : TrackWords) : Type 0 where
+  pub files : HasTracker present options w.archs w.packages w.sources w.tracker
+  pub state_path : path_if present.state (codes "state") options ≡ w.state
   pub statuses : shown_in options ≡ Some w.shown
   pub rows : chunk_in (first_of (codes "chunk") options) ≡ Some w.chunk
 
 -- the words ask for this report
-abbrev pub AskForTrack : List (List ℕ) → TrackWords → Type 0
-AskForTrack words w = AskFor (codes "track") words × HasTrack (options_of words) w
+abbrev pub AskForTrack : Present → List (List ℕ) → TrackWords → Type 0
+AskForTrack present words w = AskFor (codes "track") words × HasTrack present (options_of words) w
 
 -- how many builders there are at most: as many as a board has seats for
 abbrev pub most_builders : ℕ
@@ -255,54 +271,29 @@ pub record RunWords : Type 0 where
   pub journal : Option (List ℕ)
 
 -- the options of `run` are these
-pub record HasRun (options : List Row) (w : RunWords) : Type 0 where
+pub record HasRun (present : Present) (options : List Row) (w : RunWords) : Type 0 where
   pub files : HasFiles options w.archs w.packages w.sources
-  pub state_path : first_of (codes "state") options ≡ w.state
-  pub tracker_path : first_of (codes "tracker") options ≡ w.tracker
+  pub state_path : path_if present.state (codes "state") options ≡ w.state
+  pub tracker_path : path_if present.tracker (codes "tracker") options ≡ w.tracker
   pub suite_name : suite_in (first_of (codes "suite") options) ≡ w.suite
   pub count : builders_in (first_of (codes "builders") options) ≡ Some w.builders
   pub outcomes_path : first_of (codes "outcomes") options ≡ w.outcomes
-  pub journal_path : first_of (codes "journal") options ≡ w.journal
+  pub journal_path : path_if present.journal (codes "journal") options ≡ w.journal
 
 -- the words ask for this run
-abbrev pub AskForRun : List (List ℕ) → RunWords → Type 0
-AskForRun words w = AskFor (codes "run") words × HasRun (options_of words) w
+abbrev pub AskForRun : Present → List (List ℕ) → RunWords → Type 0
+AskForRun present words w = AskFor (codes "run") words × HasRun present (options_of words) w
 
 -- `--NAME=PATH`
 abbrev pub given : List ℕ → List ℕ → List ℕ
 given name path = codes "--" ++ (name ++ (codes "=" ++ path))
-
--- the words that ask for a check of these files, whatever their paths are
-abbrev pub asking_for_check : List ℕ → List ℕ → List ℕ → List ℕ → List (List ℕ)
-asking_for_check program archs packages sources =
-    program ∷ codes "check" ∷ given (codes "archs") archs ∷ given (codes "packages") packages
-    ∷ given (codes "sources") sources ∷ []
 
 -- a path that isn't taken for an option: there is a first byte, and it is no hyphen
 abbrev pub IsPlainPath : List ℕ → Type 0
 IsPlainPath [] = ⊥
 IsPlainPath (x ∷ xs) = (x == 45) ≡ false
 
--- the words that ask for a check, with the paths as words of their own
-abbrev pub asking_apart : List ℕ → List ℕ → List ℕ → List ℕ → List (List ℕ)
-asking_apart program archs packages sources =
-    program ∷ codes "check" ∷ codes "--archs" ∷ archs ∷ codes "--packages" ∷ packages
-    ∷ codes "--sources" ∷ sources ∷ []
-
--- the words of a check ask for it, with each path joined to its option
-abbrev pub JoinedWordsAsk : Type 0
-JoinedWordsAsk =
-    (program archs packages sources : List ℕ)
-    → AskForCheck (asking_for_check program archs packages sources) archs packages sources
-
--- the words of a check ask for it with the paths apart, if no path is taken for an option
-abbrev pub SeparateWordsAsk : Type 0
-SeparateWordsAsk =
-    (program archs packages sources : List ℕ) → IsPlainPath archs → IsPlainPath packages
-    → IsPlainPath sources
-    → AskForCheck (asking_apart program archs packages sources) archs packages sources
-
--- ---- the words of the other subcommands
+-- ---- the words of subcommands
 
 -- `--NAME=VALUE` if there is a value
 abbrev pub given_if : List ℕ → Option (List ℕ) → List (List ℕ)
@@ -340,8 +331,9 @@ asking_for_track program w chunk =
 -- row
 abbrev pub TrackWordsAsk : Type 0
 TrackWordsAsk =
-    (program : List ℕ) (w : TrackWords) (chunk : Option (List ℕ)) → chunk_in chunk ≡ Some w.chunk
-    → w.shown ≡ all_shown → AskForTrack (asking_for_track program w chunk) w
+    (present : Present) (program : List ℕ) (w : TrackWords) (chunk : Option (List ℕ))
+    → chunk_in chunk ≡ Some w.chunk → w.shown ≡ all_shown
+    → AskForTrack present (asking_for_track program w chunk) w
 
 -- the words that ask for a report over the archive's own rows, with one word more
 abbrev pub asking_for_shown : List ℕ → List ℕ → List ℕ → List ℕ → List ℕ → List ℕ
@@ -364,18 +356,19 @@ shown_of archs packages sources tracker shown = record {
 
 -- they ask for a report of the statuses that the word lists, or of no row
 pub record ShownWordsAsk : Type 0 where
-  pub only : (program archs packages sources tracker list : List ℕ) (shown : Shown)
-      → statuses_at list ≡ Some shown
-      → AskForTrack (asking_for_shown program archs packages sources tracker
+  pub only : (present : Present) (program archs packages sources tracker list : List ℕ)
+      (shown : Shown) → statuses_at list ≡ Some shown
+      → AskForTrack present (asking_for_shown program archs packages sources tracker
       (given (codes "only") list)) (shown_of archs packages sources tracker shown)
-  pub summary : (program archs packages sources tracker : List ℕ)
-      → AskForTrack (asking_for_shown program archs packages sources tracker
+  pub summary : (present : Present) (program archs packages sources tracker : List ℕ)
+      → AskForTrack present (asking_for_shown program archs packages sources tracker
       (codes "--summary")) (shown_of archs packages sources tracker none_shown)
 
 -- the words that ask for waves ask for them, in each form
 abbrev pub WavesWordsAsk : Type 0
 WavesWordsAsk =
-    (program : List ℕ) (w : WavesWords) → AskForWaves (asking_for_waves program w) w
+    (present : Present) (program : List ℕ) (w : WavesWords)
+    → AskForWaves present (asking_for_waves program w) w
 
 -- the words that ask for a run over only an archive
 abbrev pub asking_for_plain_run : List ℕ → List ℕ → List ℕ → List ℕ → List (List ℕ)
@@ -399,8 +392,8 @@ plain_run archs packages sources = record {
 -- the words that ask for a run over only an archive ask for that
 abbrev pub PlainRunWordsAsk : Type 0
 PlainRunWordsAsk =
-    (program archs packages sources : List ℕ)
-    → AskForRun (asking_for_plain_run program archs packages sources)
+    (present : Present) (program archs packages sources : List ℕ)
+    → AskForRun present (asking_for_plain_run program archs packages sources)
     (plain_run archs packages sources)
 
 -- what else may be given to a run: other rows, a tracker, a suite, how many builders, what their
@@ -438,44 +431,35 @@ whole_run archs packages sources v count = record {
 -- the words that ask for a run with everything that may be given ask for that
 abbrev pub WholeRunWordsAsk : Type 0
 WholeRunWordsAsk =
-    (program archs packages sources : List ℕ) (v : DeskValues) (count : ℕ)
+    (present : Present) (program archs packages sources : List ℕ) (v : DeskValues) (count : ℕ)
     → builders_at v.builders ≡ Some count
-    → AskForRun (asking_for_whole_run program archs packages sources v)
+    → AskForRun present (asking_for_whole_run program archs packages sources v)
     (whole_run archs packages sources v count)
 
 -- ---- with an explanation
 
--- the words of a check ask for it, whether `--explain` follows them or not, and for an
--- explanation if and only if it does
-pub record CheckWordsExplain : Type 0 where
-  pub same : (program archs packages sources : List ℕ) (explained : Bool)
-      → AskForCheck (asking_for_check program archs packages sources ++ explaining explained) archs
-      packages sources
-  pub flag : (program archs packages sources : List ℕ) (explained : Bool)
-      → is_explained (options_of
-      (asking_for_check program archs packages sources ++ explaining explained)) ≡ explained
-
 -- the words of a report ask for it, and for an explanation if and only if `--explain` follows
 pub record TrackWordsExplain : Type 0 where
-  pub same : (program : List ℕ) (w : TrackWords) (chunk : Option (List ℕ)) (explained : Bool)
-      → chunk_in chunk ≡ Some w.chunk → w.shown ≡ all_shown
-      → AskForTrack (asking_for_track program w chunk ++ explaining explained) w
+  pub same : (present : Present) (program : List ℕ) (w : TrackWords) (chunk : Option (List ℕ))
+      (explained : Bool) → chunk_in chunk ≡ Some w.chunk → w.shown ≡ all_shown
+      → AskForTrack present (asking_for_track program w chunk ++ explaining explained) w
   pub flag : (program : List ℕ) (w : TrackWords) (chunk : Option (List ℕ)) (explained : Bool)
       → is_explained (options_of (asking_for_track program w chunk ++ explaining explained))
       ≡ explained
 
 -- the words of waves ask for them, and for an explanation if and only if `--explain` follows
 pub record WavesWordsExplain : Type 0 where
-  pub same : (program : List ℕ) (w : WavesWords) (explained : Bool)
-      → AskForWaves (asking_for_waves program w ++ explaining explained) w
+  pub same : (present : Present) (program : List ℕ) (w : WavesWords) (explained : Bool)
+      → AskForWaves present (asking_for_waves program w ++ explaining explained) w
   pub flag : (program : List ℕ) (w : WavesWords) (explained : Bool)
       → is_explained (options_of (asking_for_waves program w ++ explaining explained))
       ≡ explained
 
 -- the words of a plain run ask for it, and for an explanation if and only if `--explain` follows
 pub record RunWordsExplain : Type 0 where
-  pub same : (program archs packages sources : List ℕ) (explained : Bool)
-      → AskForRun (asking_for_plain_run program archs packages sources ++ explaining explained)
+  pub same : (present : Present) (program archs packages sources : List ℕ) (explained : Bool)
+      → AskForRun present
+      (asking_for_plain_run program archs packages sources ++ explaining explained)
       (plain_run archs packages sources)
   pub flag : (program archs packages sources : List ℕ) (explained : Bool)
       → is_explained (options_of

@@ -3,6 +3,8 @@ use Rattle.std.specs.Prelude.{◌≡◌, ℕ, true, List, [], ◌∷◌, ◌++�
 use Rattle.std.specs.Prelude.{if◌then◌else◌}
 use Rattle.clap.specs.Walk.{Row, first_of}
 use Rattle.td_plan.specs.Message.{can_be_quoted, is_suite}
+use Rattle.td_words.specs.declared.present.Present.{Present}
+use Rattle.td_words.specs.Folder.{path_if}
 use Rattle.td_words.specs.CommandLine.{AskFor, HasTracker, IsPlainPath, archive_words, explaining}
 use Rattle.td_words.specs.CommandLine.{given, given_if, is_explained, options_of, suite_in}
 use Rattle.td_words.specs.WordsApart.{ArePlain, IsPlainIfGiven, apart, apart_if, archive_apart}
@@ -29,16 +31,16 @@ abbrev pub HasMessage : List Row → List ℕ → Type 0
 HasMessage options message = first_of (codes "message") options ≡ Some message
 
 -- the options of `plan` are these, and lines can have its message and its suite
-pub record HasPlan (options : List Row) (w : PlanWords) : Type 0 where
-  pub files : HasTracker options w.archs w.packages w.sources w.tracker
-  pub state_path : first_of (codes "state") options ≡ w.state
+pub record HasPlan (present : Present) (options : List Row) (w : PlanWords) : Type 0 where
+  pub files : HasTracker present options w.archs w.packages w.sources w.tracker
+  pub state_path : path_if present.state (codes "state") options ≡ w.state
   pub message_text : first_of (codes "message") options ≡ Some w.message
   pub suite_name : suite_in (first_of (codes "suite") options) ≡ w.suite
   pub line_words : AreLineWords w.message w.suite
 
 -- the words ask for this plan
-abbrev pub AskForPlan : List (List ℕ) → PlanWords → Type 0
-AskForPlan words w = AskFor (codes "plan") words × HasPlan (options_of words) w
+abbrev pub AskForPlan : Present → List (List ℕ) → PlanWords → Type 0
+AskForPlan present words w = AskFor (codes "plan") words × HasPlan present (options_of words) w
 
 -- what is said of a message that no quote can hold
 abbrev pub message_said : List ℕ
@@ -65,8 +67,9 @@ asking_for_plan program w suite =
 -- these words ask for the plan, with other rows or without, and with a suite or without
 abbrev pub PlanWordsAsk : Type 0
 PlanWordsAsk =
-    (program : List ℕ) (w : PlanWords) (suite : Option (List ℕ)) → suite_in suite ≡ w.suite
-    → AreLineWords w.message w.suite → AskForPlan (asking_for_plan program w suite) w
+    (present : Present) (program : List ℕ) (w : PlanWords) (suite : Option (List ℕ))
+    → suite_in suite ≡ w.suite → AreLineWords w.message w.suite
+    → AskForPlan present (asking_for_plan program w suite) w
 
 -- the words that ask for a plan, each value as a word of its own
 abbrev pub plan_apart : List ℕ → PlanWords → Option (List ℕ) → List (List ℕ)
@@ -79,17 +82,18 @@ plan_apart program w suite =
 -- words apart ask for this plan, if no value is taken for an option
 abbrev pub SeparatePlanWordsAsk : Type 0
 SeparatePlanWordsAsk =
-    (program : List ℕ) (w : PlanWords) (suite : Option (List ℕ)) → suite_in suite ≡ w.suite
-    → AreLineWords w.message w.suite → ArePlain w.archs w.packages w.sources
+    (present : Present) (program : List ℕ) (w : PlanWords) (suite : Option (List ℕ))
+    → suite_in suite ≡ w.suite → AreLineWords w.message w.suite
+    → ArePlain w.archs w.packages w.sources
     → IsPlainPath w.tracker → IsPlainPath w.message → IsPlainIfGiven w.state
     → IsPlainIfGiven suite
-    → AskForPlan (plan_apart program w suite) w
+    → AskForPlan present (plan_apart program w suite) w
 
 -- the words of a plan ask for just that, and for an explanation if that word comes after them
 pub record PlanWordsExplain : Type 0 where
-  pub same : (program : List ℕ) (w : PlanWords) (suite : Option (List ℕ)) (explained : Bool)
-      → suite_in suite ≡ w.suite → AreLineWords w.message w.suite
-      → AskForPlan (asking_for_plan program w suite ++ explaining explained) w
+  pub same : (present : Present) (program : List ℕ) (w : PlanWords) (suite : Option (List ℕ))
+      (explained : Bool) → suite_in suite ≡ w.suite → AreLineWords w.message w.suite
+      → AskForPlan present (asking_for_plan program w suite ++ explaining explained) w
   pub flag : (program : List ℕ) (w : PlanWords) (suite : Option (List ℕ)) (explained : Bool)
       → is_explained (options_of (asking_for_plan program w suite ++ explaining explained))
       ≡ explained

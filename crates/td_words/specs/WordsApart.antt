@@ -5,6 +5,7 @@ use Rattle.td_words.specs.CommandLine.{AskForRun, AskForTrack, AskForWaves, Desk
 use Rattle.td_words.specs.CommandLine.{TrackWords, WavesWords, builders_at, chunk_in, plain_run}
 use Rattle.td_words.specs.CommandLine.{whole_run}
 use Rattle.td_words.specs.ShownWords.{by_levels}
+use Rattle.td_words.specs.declared.present.Present.{Present}
 
 -- `--NAME VALUE`, and the words after it
 abbrev pub apart : List ℕ → List ℕ → List (List ℕ) → List (List ℕ)
@@ -41,9 +42,9 @@ waves_apart program w =
 -- the words with each value apart ask for the waves, if no value is taken for an option
 abbrev pub SeparateWavesWordsAsk : Type 0
 SeparateWavesWordsAsk =
-    (program : List ℕ) (w : WavesWords) → w.form ≡ by_levels
+    (present : Present) (program : List ℕ) (w : WavesWords) → w.form ≡ by_levels
     → ArePlain w.archs w.packages w.sources → IsPlainPath w.tracker
-    → AskForWaves (waves_apart program w) w
+    → AskForWaves present (waves_apart program w) w
 
 -- the words that ask for a report, by what they say of a chunk
 abbrev pub track_apart : List ℕ → TrackWords → Option (List ℕ) → List (List ℕ)
@@ -56,10 +57,11 @@ track_apart program w chunk =
 -- the words with each value apart ask for the report, if no value is taken for an option
 abbrev pub SeparateTrackWordsAsk : Type 0
 SeparateTrackWordsAsk =
-    (program : List ℕ) (w : TrackWords) (chunk : Option (List ℕ)) → chunk_in chunk ≡ Some w.chunk
+    (present : Present) (program : List ℕ) (w : TrackWords) (chunk : Option (List ℕ))
+    → chunk_in chunk ≡ Some w.chunk
     → w.shown ≡ all_shown → ArePlain w.archs w.packages w.sources → IsPlainPath w.tracker
     → IsPlainIfGiven w.state → IsPlainIfGiven chunk
-    → AskForTrack (track_apart program w chunk) w
+    → AskForTrack present (track_apart program w chunk) w
 
 -- the words that ask for a run over only an archive
 abbrev pub plain_run_apart : List ℕ → List ℕ → List ℕ → List ℕ → List (List ℕ)
@@ -69,8 +71,10 @@ plain_run_apart program archs packages sources =
 -- the words with each value apart ask for the plain run, if no value is taken for an option
 abbrev pub SeparatePlainRunWordsAsk : Type 0
 SeparatePlainRunWordsAsk =
-    (program archs packages sources : List ℕ) → ArePlain archs packages sources
-    → AskForRun (plain_run_apart program archs packages sources) (plain_run archs packages sources)
+    (present : Present) (program archs packages sources : List ℕ)
+    → ArePlain archs packages sources
+    → AskForRun present (plain_run_apart program archs packages sources)
+    (plain_run archs packages sources)
 
 -- nothing that is given to a run as well as an archive is taken for an option
 pub record AreDeskPlain (v : DeskValues) : Type 0 where
@@ -92,8 +96,8 @@ whole_run_apart program archs packages sources v =
 -- the words with each value apart ask for the whole run, if no value is taken for an option
 abbrev pub SeparateWholeRunWordsAsk : Type 0
 SeparateWholeRunWordsAsk =
-    (program archs packages sources : List ℕ) (v : DeskValues) (count : ℕ)
+    (present : Present) (program archs packages sources : List ℕ) (v : DeskValues) (count : ℕ)
     → builders_at v.builders ≡ Some count
     → ArePlain archs packages sources → AreDeskPlain v
-    → AskForRun (whole_run_apart program archs packages sources v)
+    → AskForRun present (whole_run_apart program archs packages sources v)
     (whole_run archs packages sources v count)

@@ -3,9 +3,11 @@ ghost use Rattle.std.specs.Prelude.{◌≡◌, IfOk, false};
 ghost use Rattle.clap.specs.Simple.{App, Shape, app_of, shape_of, with_rule, with_subcommand};
 ghost use Rattle.clap.specs.declared.builder.command.Command.TheViews.{out-Command};
 ghost use Rattle.clap.specs.Walk.{rule_of};
-ghost use Rattle.td_words.specs.CommandLine.{bare_desk, check_shape, desk, flag_of, needed_option};
+ghost use Rattle.td_words.specs.CommandLine.{bare_desk, check_shape, desk_by, flag_of};
+ghost use Rattle.td_words.specs.CommandLine.{needed_option};
 ghost use Rattle.td_words.specs.CommandLine.{option_of, plan_shape, run_shape, simulate_shape};
 ghost use Rattle.td_words.specs.CommandLine.{track_shape, waves_shape, with_archive_rules};
+ghost use Rattle.td_words.specs.CommandLine.{with_check_rules};
 ghost use Rattle.td_words.specs.CommandLine.{with_crew_rules, with_desk_rules, with_explanation};
 ghost use Rattle.td_words.specs.CommandLine.{with_form_rules, with_plan_rules, with_report_rules};
 ghost use Rattle.td_words.specs.CommandLine.{with_tracker_rules};
@@ -90,6 +92,10 @@ const CHECK: &str = "\
 The three files are read whole. Standard output has one line:
   sources S binaries B rows R
 S sources and B binary packages count, and a desk would open with R rows.
+With --details it then has a line for each architecture of the table, with its own packages, its
+rows, and those that open as Needs-Build; and warnings of what is read but rarely meant:
+  arch NAME binaries B rows R needs-build N
+  warning: TEXT
 Nothing is printed where a file isn't of its form; standard error names it.
 
 docs/FORMATS.md says exactly which stanzas count, and which architectures have rows.";
@@ -100,16 +106,35 @@ const PACKAGES: &str = "The Packages index of those architectures";
 
 const SOURCES: &str = "The Sources index";
 
+const FOLDER: &str = "A folder that has the files whose options are left out, by those names";
+
 const TRACKER: &str = "Which packages the transition affects, and which of them are good or bad";
 
-fn check<'a>(alloc: Global) -> Result<Command<'a>, AllocError>
-    ensures shape { IfOk result (λ c. shape_of c ≡ check_shape) }
+// The command with the files of an archive, and with the options for details.
+fn with_details<'a>(
+    alloc: Global,
+    command: Command<'a>,
+    strict: bool,
+) -> Result<Command<'a>, AllocError>
+    ensures app { IfOk result (λ c. app_of c ≡ with_check_rules strict (app_of command.entry)) }
+    ensures globals { (out-Command command.entry).has_globals ≡ false
+        → IfOk result (λ c. (out-Command c).has_globals ≡ false) }
+{
+    let command = with_archive(alloc, command, strict)?;
+    let details = "Print a line for each architecture, and warnings";
+    let tracker = "With --details: a tracker, of which details are printed too";
+    let command = with_flag(alloc, command, "details", details)?;
+    with_option(alloc, command, "tracker", "FILE", tracker)
+}
+
+fn check<'a>(alloc: Global, strict: bool) -> Result<Command<'a>, AllocError>
+    ensures shape { IfOk result (λ c. shape_of c ≡ check_shape strict) }
     ensures globals { IfOk result (λ c. (out-Command c).has_globals ≡ false) }
 {
     let command = Command::new(alloc, "check")
         .about("Count what two package indices hold, and the rows that a desk would open with")
         .after_help(CHECK);
-    let command = with_archive(alloc, command)?;
+    let command = with_details(alloc, command, strict)?;
     explained(alloc, command)
 }
 
@@ -153,12 +178,18 @@ fn option<'a>(alloc: Global, name: &'static str, value: &'static str, help: &'st
         .help(help)
 }
 
-// An option that has to be there, with one value.
-fn needed<'a>(alloc: Global, name: &'static str, value: &'static str, help: &'static str) -> Arg<'a>
-    ensures rule { rule_of result ≡ needed_option name.now }
+// An option with one value that has to be there, if the command line is read strictly.
+fn needed<'a>(
+    alloc: Global,
+    strict: bool,
+    name: &'static str,
+    value: &'static str,
+    help: &'static str,
+) -> Arg<'a>
+    ensures rule { rule_of result ≡ needed_option strict name.now }
     ensures global { result.global ≡ false }
 {
-    option(alloc, name, value, help).required(true)
+    option(alloc, name, value, help).required(strict)
 }
 
 // The command with one more option that may be left out.
@@ -177,89 +208,108 @@ fn with_option<'a>(
     command.arg(option(alloc, name, value, help))
 }
 
-// The command with one more option that has to be there.
+// The command with one more option that has to be there, if it is read strictly.
 fn with_needed<'a>(
     alloc: Global,
     command: Command<'a>,
+    strict: bool,
     name: &'static str,
     value: &'static str,
     help: &'static str,
 ) -> Result<Command<'a>, AllocError>
     ensures app { IfOk result (λ c.
-        app_of c ≡ with_rule (app_of command.entry) (needed_option name.now)) }
+        app_of c ≡ with_rule (app_of command.entry) (needed_option strict name.now)) }
     ensures globals { (out-Command command.entry).has_globals ≡ false
         → IfOk result (λ c. (out-Command c).has_globals ≡ false) }
 {
-    command.arg(needed(alloc, name, value, help))
+    command.arg(needed(alloc, strict, name, value, help))
 }
 
 // The command with one more file.
 fn with_file<'a>(
     alloc: Global,
     command: Command<'a>,
+    strict: bool,
     name: &'static str,
     help: &'static str,
 ) -> Result<Command<'a>, AllocError>
     ensures app { IfOk result (λ c.
-        app_of c ≡ with_rule (app_of command.entry) (needed_option name.now)) }
+        app_of c ≡ with_rule (app_of command.entry) (needed_option strict name.now)) }
     ensures globals { (out-Command command.entry).has_globals ≡ false
         → IfOk result (λ c. (out-Command c).has_globals ≡ false) }
 {
-    with_needed(alloc, command, name, "FILE", help)
+    with_needed(alloc, command, strict, name, "FILE", help)
 }
 
-// The command with the files of an archive.
-fn with_archive<'a>(alloc: Global, command: Command<'a>) -> Result<Command<'a>, AllocError>
-    ensures app { IfOk result (λ c. app_of c ≡ with_archive_rules (app_of command.entry)) }
+// The command with the files of an archive, and a folder that may have them.
+fn with_archive<'a>(
+    alloc: Global,
+    command: Command<'a>,
+    strict: bool,
+) -> Result<Command<'a>, AllocError>
+    ensures app { IfOk result (λ c. app_of c ≡ with_archive_rules strict (app_of command.entry)) }
     ensures globals { (out-Command command.entry).has_globals ≡ false
         → IfOk result (λ c. (out-Command c).has_globals ≡ false) }
 {
-    let command = with_file(alloc, command, "archs", ARCHS)?;
-    let command = with_file(alloc, command, "packages", PACKAGES)?;
-    with_file(alloc, command, "sources", SOURCES)
+    let command = with_file(alloc, command, strict, "archs", ARCHS)?;
+    let command = with_file(alloc, command, strict, "packages", PACKAGES)?;
+    let command = with_file(alloc, command, strict, "sources", SOURCES)?;
+    with_option(alloc, command, "folder", "DIR", FOLDER)
 }
 
 // The command with the files of an archive and a tracker.
-fn with_tracker<'a>(alloc: Global, command: Command<'a>) -> Result<Command<'a>, AllocError>
-    ensures app { IfOk result (λ c. app_of c ≡ with_tracker_rules (app_of command.entry)) }
+fn with_tracker<'a>(
+    alloc: Global,
+    command: Command<'a>,
+    strict: bool,
+) -> Result<Command<'a>, AllocError>
+    ensures app { IfOk result (λ c. app_of c ≡ with_tracker_rules strict (app_of command.entry)) }
     ensures globals { (out-Command command.entry).has_globals ≡ false
         → IfOk result (λ c. (out-Command c).has_globals ≡ false) }
 {
-    let command = with_archive(alloc, command)?;
-    with_file(alloc, command, "tracker", TRACKER)
+    let command = with_archive(alloc, command, strict)?;
+    with_file(alloc, command, strict, "tracker", TRACKER)
 }
 
 // The command with the files of a tracker, and how affected sources are listed.
-fn with_form<'a>(alloc: Global, command: Command<'a>) -> Result<Command<'a>, AllocError>
-    ensures app { IfOk result (λ c. app_of c ≡ with_form_rules (app_of command.entry)) }
+fn with_form<'a>(
+    alloc: Global,
+    command: Command<'a>,
+    strict: bool,
+) -> Result<Command<'a>, AllocError>
+    ensures app { IfOk result (λ c. app_of c ≡ with_form_rules strict (app_of command.entry)) }
     ensures globals { (out-Command command.entry).has_globals ≡ false
         → IfOk result (λ c. (out-Command c).has_globals ≡ false) }
 {
-    let command = with_tracker(alloc, command)?;
+    let command = with_tracker(alloc, command, strict)?;
     let steps = "List the sources by steps, and those that build on one another on one line";
     let why = "Print after each source what it builds on, and by which package";
     let command = with_flag(alloc, command, "steps", steps)?;
     with_flag(alloc, command, "why", why)
 }
 
-fn waves<'a>(alloc: Global) -> Result<Command<'a>, AllocError>
-    ensures shape { IfOk result (λ c. shape_of c ≡ waves_shape) }
+fn waves<'a>(alloc: Global, strict: bool) -> Result<Command<'a>, AllocError>
+    ensures shape { IfOk result (λ c. shape_of c ≡ waves_shape strict) }
     ensures globals { IfOk result (λ c. (out-Command c).has_globals ≡ false) }
 {
     let command = Command::new(alloc, "waves")
         .about("List the sources of a transition by the levels in which they can be rebuilt")
         .after_help(WAVES);
-    let command = with_form(alloc, command)?;
+    let command = with_form(alloc, command, strict)?;
     explained(alloc, command)
 }
 
 // The command with the files and the options of a report.
-fn with_report<'a>(alloc: Global, command: Command<'a>) -> Result<Command<'a>, AllocError>
-    ensures app { IfOk result (λ c. app_of c ≡ with_report_rules (app_of command.entry)) }
+fn with_report<'a>(
+    alloc: Global,
+    command: Command<'a>,
+    strict: bool,
+) -> Result<Command<'a>, AllocError>
+    ensures app { IfOk result (λ c. app_of c ≡ with_report_rules strict (app_of command.entry)) }
     ensures globals { (out-Command command.entry).has_globals ≡ false
         → IfOk result (λ c. (out-Command c).has_globals ≡ false) }
 {
-    let command = with_tracker(alloc, command)?;
+    let command = with_tracker(alloc, command, strict)?;
     let only = "Print only rows of these statuses: good, bad, partial, unknown";
     let summary = "Print no rows, only the line of each level and the last one";
     let chunk = "Make the report by N rows at a time, in several threads: 1 to 1000000";
@@ -269,14 +319,14 @@ fn with_report<'a>(alloc: Global, command: Command<'a>) -> Result<Command<'a>, A
     with_option(alloc, command, "chunk", "N", chunk)
 }
 
-fn track<'a>(alloc: Global) -> Result<Command<'a>, AllocError>
-    ensures shape { IfOk result (λ c. shape_of c ≡ track_shape) }
+fn track<'a>(alloc: Global, strict: bool) -> Result<Command<'a>, AllocError>
+    ensures shape { IfOk result (λ c. shape_of c ≡ track_shape strict) }
     ensures globals { IfOk result (λ c. (out-Command c).has_globals ≡ false) }
 {
     let command = Command::new(alloc, "track")
         .about("Report how far a transition has come, row by row")
         .after_help(TRACK);
-    let command = with_report(alloc, command)?;
+    let command = with_report(alloc, command, strict)?;
     explained(alloc, command)
 }
 
@@ -297,27 +347,31 @@ Nothing is printed where a file isn't of its form; standard error names it.
 docs/FORMATS.md says exactly what is read and printed.";
 
 // The command with the files of a tracker, and with the options of a plan.
-fn with_plan<'a>(alloc: Global, command: Command<'a>) -> Result<Command<'a>, AllocError>
-    ensures app { IfOk result (λ c. app_of c ≡ with_plan_rules (app_of command.entry)) }
+fn with_plan<'a>(
+    alloc: Global,
+    command: Command<'a>,
+    strict: bool,
+) -> Result<Command<'a>, AllocError>
+    ensures app { IfOk result (λ c. app_of c ≡ with_plan_rules strict (app_of command.entry)) }
     ensures globals { (out-Command command.entry).has_globals ≡ false
         → IfOk result (λ c. (out-Command c).has_globals ≡ false) }
 {
-    let command = with_tracker(alloc, command)?;
+    let command = with_tracker(alloc, command, strict)?;
     let text = "Why the rows are rebuilt: the text of each `nmu` line";
-    let command = with_needed(alloc, command, "message", "TEXT", text)?;
+    let command = with_needed(alloc, command, strict, "message", "TEXT", text)?;
     let suite = "The suite that the lines name; unstable where none is given";
     let command = with_option(alloc, command, "state", "FILE", STATE)?;
     with_option(alloc, command, "suite", "NAME", suite)
 }
 
-fn plan<'a>(alloc: Global) -> Result<Command<'a>, AllocError>
-    ensures shape { IfOk result (λ c. shape_of c ≡ plan_shape) }
+fn plan<'a>(alloc: Global, strict: bool) -> Result<Command<'a>, AllocError>
+    ensures shape { IfOk result (λ c. shape_of c ≡ plan_shape strict) }
     ensures globals { IfOk result (λ c. (out-Command c).has_globals ≡ false) }
 {
     let command = Command::new(alloc, "plan")
         .about("Write the lines that rebuild a transition, step by step, for a script or a desk")
         .after_help(PLAN);
-    let command = with_plan(alloc, command)?;
+    let command = with_plan(alloc, command, strict)?;
     explained(alloc, command)
 }
 
@@ -365,8 +419,8 @@ fn with_crew<'a>(alloc: Global, command: Command<'a>) -> Result<Command<'a>, All
     with_option(alloc, command, "journal", "FILE", journal)
 }
 
-fn run<'a>(alloc: Global) -> Result<Command<'a>, AllocError>
-    ensures shape { IfOk result (λ c. shape_of c ≡ run_shape) }
+fn run<'a>(alloc: Global, strict: bool) -> Result<Command<'a>, AllocError>
+    ensures shape { IfOk result (λ c. shape_of c ≡ run_shape strict) }
     ensures globals { IfOk result (λ c. (out-Command c).has_globals ≡ false) }
 {
     let command = Command::new(alloc, "run")
@@ -375,7 +429,7 @@ fn run<'a>(alloc: Global) -> Result<Command<'a>, AllocError>
             "transdesk run [OPTIONS] --archs <FILE> --packages <FILE> --sources <FILE> < SCRIPT",
         )
         .after_help(RUN);
-    let command = with_archive(alloc, command)?;
+    let command = with_archive(alloc, command, strict)?;
     let command = with_desk(alloc, command)?;
     let command = with_crew(alloc, command)?;
     explained(alloc, command)
@@ -406,14 +460,15 @@ fn with_part<'a>(
     whole.subcommand(part?)
 }
 
-/// The program's command line, as `clap` has it.
-pub(crate) fn command<'a>(alloc: Global) -> Result<Command<'a>, AllocError>
-    ensures { IfOk result (λ c. app_of c ≡ desk) }
+/// The program's command line, as `clap` has it. If it is strict, `clap` wants all that is needed
+/// to be among the words; else a folder may give it.
+pub(crate) fn command<'a>(alloc: Global, strict: bool) -> Result<Command<'a>, AllocError>
+    ensures { IfOk result (λ c. app_of c ≡ desk_by strict) }
 {
     let whole = with_part(Ok(program(alloc)), simulate(alloc));
-    let whole = with_part(whole, check(alloc));
-    let whole = with_part(whole, track(alloc));
-    let whole = with_part(whole, waves(alloc));
-    let whole = with_part(whole, plan(alloc));
-    with_part(whole, run(alloc))
+    let whole = with_part(whole, check(alloc, strict));
+    let whole = with_part(whole, track(alloc, strict));
+    let whole = with_part(whole, waves(alloc, strict));
+    let whole = with_part(whole, plan(alloc, strict));
+    with_part(whole, run(alloc, strict))
 }

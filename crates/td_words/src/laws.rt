@@ -1,9 +1,10 @@
 //! The words that ask for each subcommand do so, as theorems.
-ghost use Rattle.td_words.specs.CommandLine.{CheckWordsExplain, JoinedWordsAsk, PlainRunWordsAsk};
-ghost use Rattle.td_words.specs.CommandLine.{RunWordsExplain, SeparateWordsAsk, SimulationWordsAsk};
+ghost use Rattle.td_words.specs.CheckWords.{CheckWordsExplain, JoinedWordsAsk, SeparateWordsAsk};
+ghost use Rattle.td_words.specs.CommandLine.{PlainRunWordsAsk, RunWordsExplain, SimulationWordsAsk};
 ghost use Rattle.td_words.specs.CommandLine.{TrackWordsAsk, TrackWordsExplain, WavesWordsAsk};
 ghost use Rattle.td_words.specs.CommandLine.{WavesWordsExplain, WholeRunWordsAsk};
 ghost use Rattle.td_words.specs.CommandLine.{ShownWordsAsk};
+ghost use Rattle.td_words.specs.FolderWords.{FolderWordsAsk};
 ghost use Rattle.td_words.specs.PlanWords.{PlanWordsAsk, PlanWordsExplain, SeparatePlanWordsAsk};
 ghost use Rattle.td_words.specs.WordsApart.{SeparatePlainRunWordsAsk, SeparateTrackWordsAsk};
 ghost use Rattle.td_words.specs.WordsApart.{SeparateWavesWordsAsk, SeparateWholeRunWordsAsk};
@@ -13,8 +14,9 @@ pub fn words_of_a_simulation_ask_for_it()
     ensures { SimulationWordsAsk }
 {}
 
-/// The words of a check ask for it: with each path joined to its option, whatever it is; or as a
-/// word of its own, if it isn't empty and doesn't begin with a hyphen.
+/// The words of a check ask for it, with details or without: with each path joined to its option,
+/// whatever it is; or, without details, as a word of its own, if it isn't empty and doesn't begin
+/// with a hyphen.
 pub fn words_of_a_check_ask_for_it()
     ensures joined { JoinedWordsAsk }
     ensures separate { SeparateWordsAsk }
@@ -40,8 +42,8 @@ pub fn words_of_waves_ask_for_them()
     ensures explained { WavesWordsExplain }
 {}
 
-/// The words of a plan ask for it, with other rows or without, and with a suite or without, if lines
-/// can have the message and the suite.
+/// The words of a plan ask for it, with other rows or without, and with a suite or without, if
+/// lines can have the message and the suite.
 pub fn words_of_a_plan_ask_for_it()
     ensures joined { PlanWordsAsk }
     ensures separate { SeparatePlanWordsAsk }
@@ -55,4 +57,10 @@ pub fn words_of_a_run_ask_for_it()
     ensures plain_separate { SeparatePlainRunWordsAsk }
     ensures whole_separate { SeparateWholeRunWordsAsk }
     ensures explained { RunWordsExplain }
+{}
+
+/// Words that give only a folder ask for the files in it: for the three of an archive whether they
+/// are there or not, and for the others if they are there. The path of a file's own option wins.
+pub fn words_of_a_folder_ask_for_its_files()
+    ensures { FolderWordsAsk }
 {}

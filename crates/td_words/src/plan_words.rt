@@ -1,17 +1,18 @@
 //! The words that ask for a plan.
-ghost use Rattle.std.specs.Prelude.{◌≡◌, ℕ, List, Some, codes, string_bytes, MatchResult, IfOk};
-ghost use Rattle.std.specs.Prelude.{IfErr, OnOk};
+ghost use Rattle.std.specs.Prelude.{◌≡◌, ℕ, List, Some, None, codes, string_bytes, MatchResult};
+ghost use Rattle.std.specs.Prelude.{IfErr, IfOk, OnOk};
 ghost use Rattle.clap.specs.Matches.{found_of};
 ghost use Rattle.clap.specs.Walk.{first_of, rows_of};
-ghost use Rattle.td_words.specs.CommandLine.{HasTracker, suite_in as suite_in_of};
+ghost use Rattle.td_words.specs.CommandLine.{HasFiles, HasTracker, suite_in as suite_in_of};
+ghost use Rattle.td_words.specs.Folder.{folder_in, path_if, tracker_said};
 ghost use Rattle.td_words.specs.PlanWords.{AreLineWords, HasPlan, PlanWords, line_words_said};
 ghost use Rattle.td_words.specs.inner.Judged.{said_of as said_of_fault};
 ghost use Rattle.td_words.specs.Asked.{IsGivenBy, IsUsage, plan_of, request_words};
 
+use crate::folder::{file_in, tracker_in};
 use crate::line_words::LineWords;
-use crate::request::{
-    PlanRequest, Request, WordsFault, archive_in, given_in, needed_in, usage_fault,
-};
+use crate::present::Present;
+use crate::request::{PlanRequest, Request, WordsFault, archive_in, needed_in, usage_fault};
 use crate::run_words::suite_in;
 use clap::ArgMatches;
 use std::alloc::Global;
@@ -58,8 +59,16 @@ fn line_words(alloc: Global, message: String, suite: String) -> Result<LineWords
     }
 }
 
+/// What is said if a folder is given, and no message.
+const NO_MESSAGE: &str =
+    "error: the following required arguments were not provided:\n  --message <TEXT>\n\nFor more information, try '--help'.\n";
+
 // The message and the suite that the matches of `plan` have.
-fn words_in(alloc: Global, matches: &ArgMatches<'_>) -> Result<LineWords, WordsFault>
+fn words_in(
+    alloc: Global,
+    words: &[String],
+    matches: &ArgMatches<'_>,
+) -> Result<LineWords, WordsFault>
     ensures message { IfOk result (λ words.
         first_of (codes "message") (rows_of (found_of matches.now))
         ≡ Some (string_bytes words.message)) }
@@ -74,26 +83,36 @@ fn words_in(alloc: Global, matches: &ArgMatches<'_>) -> Result<LineWords, WordsF
         → first_of (codes "message") (rows_of (found_of matches.now)) ≡ Some message
         → IfErr result (λ e. IsUsage e (line_words_said message)) }
 {
-    let message = needed_in(alloc, matches, "message")?;
+    let message = needed_in(alloc, words, matches, "message", NO_MESSAGE)?;
     let suite = suite_in(alloc, matches)?;
     line_words(alloc, message, suite)
 }
 
 /// The plan that the matches of `plan` ask for.
-pub(crate) fn plan_in(alloc: Global, matches: &ArgMatches<'_>) -> Result<Request, WordsFault>
-    ensures plan { (w : PlanWords) → HasPlan (rows_of (found_of matches.now)) w
+pub(crate) fn plan_in(
+    alloc: Global,
+    words: &[String],
+    matches: &ArgMatches<'_>,
+    present: Present,
+) -> Result<Request, WordsFault>
+    ensures plan { (w : PlanWords) → HasPlan present (rows_of (found_of matches.now)) w
         → MatchResult result (λ r. request_words r ≡ plan_of w) (λ e. e ≡ WordsFault.NoMemory) }
     ensures said { (archs packages sources tracker message : List ℕ)
-        → HasTracker (rows_of (found_of matches.now)) archs packages sources tracker
+        → HasTracker present (rows_of (found_of matches.now)) archs packages sources tracker
         → first_of (codes "message") (rows_of (found_of matches.now)) ≡ Some message
         → IfErr result (λ e. IsUsage e (line_words_said message)) }
-    ensures only { IfOk result (λ r. IsGivenBy
+    ensures lacking { (archs packages sources folder : List ℕ)
+        → HasFiles (rows_of (found_of matches.now)) archs packages sources
+        → path_if present.tracker (codes "tracker") (rows_of (found_of matches.now)) ≡ None
+        → folder_in (rows_of (found_of matches.now)) ≡ Some folder
+        → IfErr result (λ e. IsUsage e tracker_said) }
+    ensures only { IfOk result (λ r. IsGivenBy present
         (Some (codes "plan", rows_of (found_of matches.now))) (request_words r)) }
 {
-    let files = archive_in(alloc, matches)?;
-    let tracker = needed_in(alloc, matches, "tracker")?;
-    let state = given_in(alloc, matches, "state")?;
-    let words = words_in(alloc, matches)?;
+    let files = archive_in(alloc, words, matches)?;
+    let tracker = tracker_in(alloc, words, matches, present)?;
+    let state = file_in(alloc, matches, "state", present.state)?;
+    let words = words_in(alloc, words, matches)?;
     Ok(Request::Plan(PlanRequest {
         files,
         tracker,

@@ -6,8 +6,11 @@ ghost use Rattle.clap.specs.Walk.{first_of, rows_of};
 ghost use Rattle.td_words.specs.CommandLine.{HasFiles, HasRun, RunWords};
 ghost use Rattle.td_words.specs.CommandLine.{builders_in as builders_in_of};
 ghost use Rattle.td_words.specs.CommandLine.{suite_in as suite_in_of};
+ghost use Rattle.td_words.specs.Folder.{path_if};
 ghost use Rattle.td_words.specs.Asked.{IsGivenBy, IsUsage, builders_said, request_words, run_of};
 
+use crate::folder::file_in;
+use crate::present::Present;
 use crate::request::{
     Request, RunRequest, WordsFault, archive_in, given_in, usage_fault, value_in,
 };
@@ -56,17 +59,21 @@ struct DeskOptions {
     suite: String,
 }
 
-fn desk_in(alloc: Global, matches: &ArgMatches<'_>) -> Result<DeskOptions, WordsFault>
+fn desk_in(
+    alloc: Global,
+    matches: &ArgMatches<'_>,
+    present: Present,
+) -> Result<DeskOptions, WordsFault>
     ensures state { IfOk result (λ d. option_map string_bytes d.state
-        ≡ first_of (codes "state") (rows_of (found_of matches.now))) }
+        ≡ path_if present.state (codes "state") (rows_of (found_of matches.now))) }
     ensures tracker { IfOk result (λ d. option_map string_bytes d.tracker
-        ≡ first_of (codes "tracker") (rows_of (found_of matches.now))) }
+        ≡ path_if present.tracker (codes "tracker") (rows_of (found_of matches.now))) }
     ensures suite { IfOk result (λ d. string_bytes d.suite
         ≡ suite_in_of (first_of (codes "suite") (rows_of (found_of matches.now)))) }
     ensures memory { IfErr result (λ e. e ≡ WordsFault.NoMemory) }
 {
-    let state = given_in(alloc, matches, "state")?;
-    let tracker = given_in(alloc, matches, "tracker")?;
+    let state = file_in(alloc, matches, "state", present.state)?;
+    let tracker = file_in(alloc, matches, "tracker", present.tracker)?;
     let suite = suite_in(alloc, matches)?;
     Ok(DeskOptions {
         state,
@@ -83,14 +90,18 @@ struct CrewOptions {
     journal: Option<String>,
 }
 
-fn crew_in(alloc: Global, matches: &ArgMatches<'_>) -> Result<CrewOptions, WordsFault>
+fn crew_in(
+    alloc: Global,
+    matches: &ArgMatches<'_>,
+    present: Present,
+) -> Result<CrewOptions, WordsFault>
     ensures builders { IfOk result (λ c.
         builders_in_of (first_of (codes "builders") (rows_of (found_of matches.now)))
         ≡ Some c.builders) }
     ensures outcomes { IfOk result (λ c. option_map string_bytes c.outcomes
         ≡ first_of (codes "outcomes") (rows_of (found_of matches.now))) }
     ensures journal { IfOk result (λ c. option_map string_bytes c.journal
-        ≡ first_of (codes "journal") (rows_of (found_of matches.now))) }
+        ≡ path_if present.journal (codes "journal") (rows_of (found_of matches.now))) }
     ensures memory { (count : ℕ)
         → builders_in_of (first_of (codes "builders") (rows_of (found_of matches.now))) ≡ Some count
         → IfErr result (λ e. e ≡ WordsFault.NoMemory) }
@@ -100,7 +111,7 @@ fn crew_in(alloc: Global, matches: &ArgMatches<'_>) -> Result<CrewOptions, Words
         return Err(usage_fault(alloc, "error: --builders takes a number from 0 to 64\n"));
     };
     let outcomes = given_in(alloc, matches, "outcomes")?;
-    let journal = given_in(alloc, matches, "journal")?;
+    let journal = file_in(alloc, matches, "journal", present.journal)?;
     Ok(CrewOptions {
         builders,
         outcomes,
@@ -109,18 +120,23 @@ fn crew_in(alloc: Global, matches: &ArgMatches<'_>) -> Result<CrewOptions, Words
 }
 
 /// The run that the matches of `run` ask for.
-pub(crate) fn run_in(alloc: Global, matches: &ArgMatches<'_>) -> Result<Request, WordsFault>
-    ensures run { (w : RunWords) → HasRun (rows_of (found_of matches.now)) w
+pub(crate) fn run_in(
+    alloc: Global,
+    words: &[String],
+    matches: &ArgMatches<'_>,
+    present: Present,
+) -> Result<Request, WordsFault>
+    ensures run { (w : RunWords) → HasRun present (rows_of (found_of matches.now)) w
         → MatchResult result (λ r. request_words r ≡ run_of w) (λ e. e ≡ WordsFault.NoMemory) }
     ensures said { (archs packages sources : List ℕ)
         → HasFiles (rows_of (found_of matches.now)) archs packages sources
         → IfErr result (λ e. IsUsage e builders_said) }
-    ensures only { IfOk result (λ r. IsGivenBy
+    ensures only { IfOk result (λ r. IsGivenBy present
         (Some (codes "run", rows_of (found_of matches.now))) (request_words r)) }
 {
-    let files = archive_in(alloc, matches)?;
-    let desk = desk_in(alloc, matches)?;
-    let crew = crew_in(alloc, matches)?;
+    let files = archive_in(alloc, words, matches)?;
+    let desk = desk_in(alloc, matches, present)?;
+    let crew = crew_in(alloc, matches, present)?;
     Ok(Request::Run(RunRequest {
         files,
         state: desk.state,

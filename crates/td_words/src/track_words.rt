@@ -1,5 +1,5 @@
 //! The words that ask for a report.
-ghost use Rattle.std.specs.Prelude.{◌≡◌, ℕ, List, Some, codes, MatchResult, IfOk, IfErr};
+ghost use Rattle.std.specs.Prelude.{◌≡◌, ℕ, List, Some, None, codes, MatchResult, IfOk, IfErr};
 ghost use Rattle.std.specs.List.{list_all};
 ghost use Rattle.clap.specs.Matches.{found_of};
 ghost use Rattle.clap.specs.Walk.{first_of, rows_of};
@@ -9,11 +9,14 @@ ghost use Rattle.td_words.specs.CommandLine.{chunk_in as chunk_in_of};
 ghost use Rattle.td_words.specs.ShownWords.{is_listed as is_listed_in, is_status_name as is_status};
 ghost use Rattle.td_words.specs.ShownWords.{none_shown as none_shown_of};
 ghost use Rattle.td_words.specs.ShownWords.{shown_in as shown_in_of, statuses_at};
+ghost use Rattle.td_words.specs.CommandLine.{HasFiles};
+ghost use Rattle.td_words.specs.Folder.{folder_in, path_if, tracker_said};
 ghost use Rattle.td_words.specs.Asked.{IsGivenBy, IsUsage, report_of, request_words, track_said};
 
+use crate::folder::{file_in, tracker_in};
+use crate::present::Present;
 use crate::request::{
-    Request, TrackRequest, WordsFault, archive_in, given_in, is_set, needed_in, usage_fault,
-    value_in,
+    Request, TrackRequest, WordsFault, archive_in, is_set, usage_fault, value_in,
 };
 use clap::ArgMatches;
 use std::alloc::Global;
@@ -130,19 +133,29 @@ fn shown_in(matches: &ArgMatches<'_>) -> Option<Shown>
 }
 
 /// The report that the matches of `track` ask for.
-pub(crate) fn track_in(alloc: Global, matches: &ArgMatches<'_>) -> Result<Request, WordsFault>
-    ensures track { (w : TrackWords) → HasTrack (rows_of (found_of matches.now)) w
+pub(crate) fn track_in(
+    alloc: Global,
+    words: &[String],
+    matches: &ArgMatches<'_>,
+    present: Present,
+) -> Result<Request, WordsFault>
+    ensures track { (w : TrackWords) → HasTrack present (rows_of (found_of matches.now)) w
         → MatchResult result (λ r. request_words r ≡ report_of w)
         (λ e. e ≡ WordsFault.NoMemory) }
     ensures said { (archs packages sources tracker : List ℕ)
-        → HasTracker (rows_of (found_of matches.now)) archs packages sources tracker
+        → HasTracker present (rows_of (found_of matches.now)) archs packages sources tracker
         → IfErr result (λ e. IsUsage e (track_said (rows_of (found_of matches.now)))) }
-    ensures only { IfOk result (λ r. IsGivenBy
+    ensures lacking { (archs packages sources folder : List ℕ)
+        → HasFiles (rows_of (found_of matches.now)) archs packages sources
+        → path_if present.tracker (codes "tracker") (rows_of (found_of matches.now)) ≡ None
+        → folder_in (rows_of (found_of matches.now)) ≡ Some folder
+        → IfErr result (λ e. IsUsage e tracker_said) }
+    ensures only { IfOk result (λ r. IsGivenBy present
         (Some (codes "track", rows_of (found_of matches.now))) (request_words r)) }
 {
-    let files = archive_in(alloc, matches)?;
-    let tracker = needed_in(alloc, matches, "tracker")?;
-    let state = given_in(alloc, matches, "state")?;
+    let files = archive_in(alloc, words, matches)?;
+    let tracker = tracker_in(alloc, words, matches, present)?;
+    let state = file_in(alloc, matches, "state", present.state)?;
     let Some(chunk) = chunk_in(matches) else {
         return Err(usage_fault(alloc, "error: --chunk takes a number from 1 to 1000000\n"));
     };

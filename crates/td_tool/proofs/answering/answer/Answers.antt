@@ -18,39 +18,38 @@ returns g c =
     let new = g.W.Write.contents c.act.new.output in
     let before = g.E.Write.contents c.args.faults.now in
     let said = g.E.Write.contents c.act.new.faults in
-    let asked = c.read_words.result in
+    let asked = c.read_call.result in
     let status = c.act.result in
     let explained = is_explained (options_of words) in
     let ran = c.act.ensures.request in
     let told = c.act.ensures.fault in
-    let flag = c.read_words.ensures.explained in
+    let flag = c.read_call.ensures.explained in
     record {
       simulate =
           λ asks. simulated words known left bytes can_fail reads writes old new before said status
           asked
-          explained ran told flag (c.read_words.ensures.simulate asks);
-      check = λ archs packages sources asks.
+          explained ran told flag (c.read_call.ensures.simulate asks);
+      check =
+          λ w asks.
           checked words known left bytes can_fail reads writes old new before said status asked
-          explained archs
-          packages sources ran told flag (c.read_words.ensures.check archs packages sources asks);
+          explained w ran told flag (c.read_call.ensures.check w asks);
       track =
           λ w asks.
           tracked words known left bytes can_fail reads writes old new before said status asked
-          explained w ran told flag (c.read_words.ensures.track w asks);
+          explained w ran told flag (c.read_call.ensures.track w asks);
       waves = λ w asks.
           waved words known left bytes can_fail reads writes old new before said status asked
-          explained w ran told flag (c.read_words.ensures.waves w asks);
+          explained w ran told flag (c.read_call.ensures.waves w asks);
       plan =
           λ w asks.
           planned words known left bytes can_fail reads writes old new before said status asked
-          explained w ran told flag (c.read_words.ensures.plan w asks);
+          explained w ran told flag (c.read_call.ensures.plan w asks);
       run =
           λ w asks. ran_script words known left bytes can_fail reads writes old new before said
           status asked
-          explained w ran told flag (c.read_words.ensures.run w asks);
+          explained w ran told flag (c.read_call.ensures.run w asks);
       others =
-          only_asked words known left bytes can_fail reads writes old new before said status asked
-          ran told flag c.act.ensures.input c.read_words.ensures.only
-          c.read_words.ensures.track_said c.read_words.ensures.plan_said
-          c.read_words.ensures.run_said;
+          only_asked words known left bytes can_fail reads writes old new before said status
+          (g.T.Texts.can_be c.args.texts.now) asked ran told flag c.act.ensures.input
+          c.read_call.ensures.only c.read_call.ensures.said;
     }

@@ -1,16 +1,17 @@
 -- `do_alone`: its clauses.
-use Rattle.std.proofs.Common.{◌≡◌, rules, string_bytes, sym, subst}
-use Rattle.td_words.specs.Asked.{waves_words}
+use Rattle.std.proofs.Common.{◌≡◌, IfSome, option_map, rules, string_bytes, sym, subst}
+use Rattle.td_words.specs.Asked.{check_words, waves_words}
 use Rattle.td_words.specs.declared.request.Request.{Request}
 use Rattle.td_tool.specs.declared.ending.Ending.{Ending}
 use Rattle.td_tool.specs.Explained.{known_of_request}
-use Rattle.td_tool.specs.Program.{EndsFor, HasNoBuilders, waves_files}
+use Rattle.td_tool.specs.Program.{EndsFor, HasNoBuilders, NotesFor, waves_files}
 use Rattle.td_tool.specs.Streams.{IsDue}
 use Rattle.td_tool.specs.TrackInside.{asked_of, saying_of}
 use Rattle.td_tool.specs.Tracks.{EndsSo, Saying}
 use Rattle.td_tool.specs.declared.tracking.Asked.{Asked}
-use Rattle.td_tool.proofs.Dues.{check_due, steady_alone, track_due}
-use Rattle.td_tool.proofs.Explanations.{ends_alone, kept_alone, short_alone}
+use Rattle.td_tool.proofs.Dues.{asked_check_due, steady_alone, track_due}
+use Rattle.td_tool.proofs.Explanations.{ends_alone, kept_alone, kept_none, none_noted}
+use Rattle.td_tool.proofs.Explanations.{noted_alone, short_alone, short_none, steady_none}
 use Rattle.td_tool.proofs.Ordered.{asked_says}
 use Rattle.td_tool.proofs.answering.do_alone.Goals as goal
 
@@ -20,17 +21,17 @@ returns-in-Check-clause-ends g c =
     λ q ending. EndsFor q (g.R.Read.remaining c.args.reader.now)
     (g.R.Read.remaining c.args.reader.now) (g.T.Texts.bytes c.args.texts.now)
     (g.T.Texts.can_fail c.args.texts.now) (g.W.Write.contents c.args.output.now)
-    (g.W.Write.contents c.check.new.output) ending in
-    ends_alone (Says c.args.request.now) c.check.result c.alone.result c.alone.ensures
-    (subst (λ q. Says q c.check.result) (sym c.in-Check.is) c.check.ensures.checks)
+    (g.W.Write.contents c.check_asked.new.output) ending in
+    ends_alone (Says c.args.request.now) c.check_asked.result c.alone.result c.alone.ensures
+    (subst (λ q. Says q c.check_asked.result) (sym c.in-Check.is) c.check_asked.ensures.ends)
 
 pub returns-in-Check-clause-kept : goal.returns-in-Check-clause-kept
 returns-in-Check-clause-kept g c =
     kept_alone (known_of_request c.args.request.now (g.R.Read.remaining c.args.reader.now)
-    (g.T.Texts.bytes c.args.texts.now)) c.check.result c.alone.result c.alone.ensures
+    (g.T.Texts.bytes c.args.texts.now)) c.check_asked.result c.alone.result c.alone.ensures
 
 pub returns-in-Check-clause-short : goal.returns-in-Check-clause-short
-returns-in-Check-clause-short g c = short_alone _ c.check.result c.alone.result c.alone.ensures
+returns-in-Check-clause-short g c = short_alone _ c.check_asked.result c.alone.result c.alone.ensures
 
 pub returns-in-Track-clause-ends : goal.returns-in-Track-clause-ends
 returns-in-Track-clause-ends g c =
@@ -105,29 +106,8 @@ pub returns-in-Plan-clause-short : goal.returns-in-Plan-clause-short
 returns-in-Plan-clause-short g c =
     short_alone _ c.plan.result c.alone-in-Plan.result c.alone-in-Plan.ensures
 
-pub returns-in-Run-clause-ends : goal.returns-in-Run-clause-ends
-returns-in-Run-clause-ends g c =
-    let Says : Request → Ending → Type 0 =
-    λ q ending. EndsFor q (g.R.Read.remaining c.args.reader.now)
-    (g.R.Read.remaining c.run_alone.new.reader) (g.T.Texts.bytes c.args.texts.now)
-    (g.T.Texts.can_fail c.args.texts.now) (g.W.Write.contents c.args.output.now)
-    (g.W.Write.contents c.run_alone.new.output) ending in
-    ends_alone (Says c.args.request.now) c.run_alone.result c.alone-in-Run.result
-    c.alone-in-Run.ensures
-    (subst (λ q. Says q c.run_alone.result) (sym c.in-Run.is) c.run_alone.ensures.ends)
-
-pub returns-in-Run-clause-kept : goal.returns-in-Run-clause-kept
-returns-in-Run-clause-kept g c =
-    kept_alone (known_of_request c.args.request.now (g.R.Read.remaining c.args.reader.now)
-    (g.T.Texts.bytes c.args.texts.now)) c.run_alone.result c.alone-in-Run.result
-    c.alone-in-Run.ensures
-
-pub returns-in-Run-clause-short : goal.returns-in-Run-clause-short
-returns-in-Run-clause-short g c =
-    short_alone _ c.run_alone.result c.alone-in-Run.result c.alone-in-Run.ensures
-
-pub run_alone-requires : goal.run_alone-requires
-run_alone-requires g c =
+pub run_explained-requires : goal.run_explained-requires
+run_explained-requires g c =
     let none = subst HasNoBuilders c.in-Run.is c.requires in search rules
 
 -- the clauses `due` and `steady`
@@ -136,13 +116,12 @@ pub returns-in-Check-clause-due : goal.returns-in-Check-clause-due
 returns-in-Check-clause-due g c =
     let input = g.R.Reader.can_fail c.args.reader.now in
     let output = g.W.Writer.can_fail c.args.output.now in
-    let files = c.in-Check.files in
-    ends_alone (IsDue input output) c.check.result c.alone.result c.alone.ensures
-    (check_due input output (g.T.Texts.bytes c.args.texts.now)
-    (g.T.Texts.can_fail c.args.texts.now) (string_bytes files.archs)
-    (string_bytes files.packages) (string_bytes files.sources)
-    (g.W.Write.contents c.args.output.now) (g.W.Write.contents c.check.new.output) c.check.result
-    c.check.ensures.checks.says c.check.ensures.due)
+    let w = check_words c.in-Check.request in
+    ends_alone (IsDue input output) c.check_asked.result c.alone.result c.alone.ensures
+    (asked_check_due input output w.tracker (g.T.Texts.bytes c.args.texts.now)
+    (g.T.Texts.can_fail c.args.texts.now) w (g.W.Write.contents c.args.output.now)
+    (g.W.Write.contents c.check_asked.new.output) c.check_asked.result
+    c.check_asked.ensures.ends c.check_asked.ensures.due)
 
 pub returns-in-Track-clause-due : goal.returns-in-Track-clause-due
 returns-in-Track-clause-due g c =
@@ -169,17 +148,10 @@ returns-in-Plan-clause-due g c =
     c.alone-in-Plan.ensures
     (track_due input output _ _ _ _ c.plan.result c.plan.ensures.ends c.plan.ensures.due)
 
-pub returns-in-Run-clause-due : goal.returns-in-Run-clause-due
-returns-in-Run-clause-due g c =
-    let input = g.R.Reader.can_fail c.args.reader.now in
-    let output = g.W.Writer.can_fail c.args.output.now in
-    ends_alone (IsDue input output) c.run_alone.result c.alone-in-Run.result
-    c.alone-in-Run.ensures c.run_alone.ensures.due
-
 pub returns-in-Check-clause-steady : goal.returns-in-Check-clause-steady
 returns-in-Check-clause-steady g c =
     steady_alone (g.R.Reader.can_fail c.args.reader.now ≡ g.R.Reader.can_fail c.args.reader.now)
-    c.check.result c.alone.result c.alone.ensures
+    c.check_asked.result c.alone.result c.alone.ensures
 
 pub returns-in-Track-clause-steady : goal.returns-in-Track-clause-steady
 returns-in-Track-clause-steady g c =
@@ -196,8 +168,67 @@ returns-in-Plan-clause-steady g c =
     steady_alone (g.R.Reader.can_fail c.args.reader.now ≡ g.R.Reader.can_fail c.args.reader.now)
     c.plan.result c.alone-in-Plan.result c.alone-in-Plan.ensures
 
+-- the clause `noted`
+
+pub returns-in-Simulate-clause-noted : goal.returns-in-Simulate-clause-noted
+returns-in-Simulate-clause-noted g c =
+    none_noted (NotesFor c.args.request.now (g.R.Read.remaining c.args.reader.now)
+    (g.T.Texts.bytes c.args.texts.now) (g.T.Texts.can_fail c.args.texts.now))
+    c.read_and_play.result c.read_and_play.ensures.noted
+
+pub returns-in-Check-clause-noted : goal.returns-in-Check-clause-noted
+returns-in-Check-clause-noted g c =
+    noted_alone (NotesFor c.args.request.now (g.R.Read.remaining c.args.reader.now)
+    (g.T.Texts.bytes c.args.texts.now) (g.T.Texts.can_fail c.args.texts.now))
+    c.check_asked.result c.alone.result c.alone.ensures
+
+pub returns-in-Track-clause-noted : goal.returns-in-Track-clause-noted
+returns-in-Track-clause-noted g c =
+    noted_alone (NotesFor c.args.request.now (g.R.Read.remaining c.args.reader.now)
+    (g.T.Texts.bytes c.args.texts.now) (g.T.Texts.can_fail c.args.texts.now))
+    c.track.result c.alone-in-Track.result c.alone-in-Track.ensures
+
+pub returns-in-Waves-clause-noted : goal.returns-in-Waves-clause-noted
+returns-in-Waves-clause-noted g c =
+    noted_alone (NotesFor c.args.request.now (g.R.Read.remaining c.args.reader.now)
+    (g.T.Texts.bytes c.args.texts.now) (g.T.Texts.can_fail c.args.texts.now))
+    c.track-in-Waves.result c.alone-in-Waves.result c.alone-in-Waves.ensures
+
+pub returns-in-Plan-clause-noted : goal.returns-in-Plan-clause-noted
+returns-in-Plan-clause-noted g c =
+    noted_alone (NotesFor c.args.request.now (g.R.Read.remaining c.args.reader.now)
+    (g.T.Texts.bytes c.args.texts.now) (g.T.Texts.can_fail c.args.texts.now))
+    c.plan.result c.alone-in-Plan.result c.alone-in-Plan.ensures
+
+-- a run, by its own call
+
+pub returns-in-Run-clause-ends : goal.returns-in-Run-clause-ends
+returns-in-Run-clause-ends g c =
+    let Says : Request → Ending → Type 0 =
+    λ q ending. EndsFor q (g.R.Read.remaining c.args.reader.now)
+    (g.R.Read.remaining c.run_explained.new.reader) (g.T.Texts.bytes c.args.texts.now)
+    (g.T.Texts.can_fail c.args.texts.now) (g.W.Write.contents c.args.output.now)
+    (g.W.Write.contents c.run_explained.new.output) ending in
+    subst (λ q. Says q c.run_explained.result.ending) (sym c.in-Run.is)
+    c.run_explained.ensures.ends
+
+pub returns-in-Run-clause-noted : goal.returns-in-Run-clause-noted
+returns-in-Run-clause-noted g c =
+    subst (λ q. IfSome (option_map string_bytes c.run_explained.result.notes)
+    (NotesFor q (g.R.Read.remaining c.args.reader.now) (g.T.Texts.bytes c.args.texts.now)
+    (g.T.Texts.can_fail c.args.texts.now))) (sym c.in-Run.is) c.run_explained.ensures.noted
+
+pub returns-in-Run-clause-kept : goal.returns-in-Run-clause-kept
+returns-in-Run-clause-kept g c =
+    kept_none (known_of_request c.args.request.now (g.R.Read.remaining c.args.reader.now)
+    (g.T.Texts.bytes c.args.texts.now)) c.run_explained.result.input c.run_explained.ensures.none
+
+pub returns-in-Run-clause-short : goal.returns-in-Run-clause-short
+returns-in-Run-clause-short g c =
+    short_none _ c.run_explained.result.input c.run_explained.ensures.none
+
 pub returns-in-Run-clause-steady : goal.returns-in-Run-clause-steady
 returns-in-Run-clause-steady g c =
-    steady_alone
-    (g.R.Reader.can_fail c.run_alone.new.reader ≡ g.R.Reader.can_fail c.args.reader.now)
-    c.run_alone.result c.alone-in-Run.result c.alone-in-Run.ensures
+    steady_none
+    (g.R.Reader.can_fail c.run_explained.new.reader ≡ g.R.Reader.can_fail c.args.reader.now)
+    c.run_explained.result.input c.run_explained.ensures.none

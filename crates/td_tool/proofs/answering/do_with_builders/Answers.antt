@@ -3,9 +3,9 @@ use Rattle.std.proofs.Common.{sym, subst}
 use Rattle.td_words.specs.declared.request.Request.{Request}
 use Rattle.td_tool.specs.declared.ending.Ending.{Ending}
 use Rattle.td_tool.specs.Explained.{known_of_request}
-use Rattle.td_tool.specs.Program.{EndsFor, LeavesInput}
+use Rattle.td_tool.specs.Program.{EndsFor, LeavesInput, NotesFor}
 use Rattle.td_tool.specs.Streams.{IsDue}
-use Rattle.td_tool.proofs.Explanations.{ends_alone, kept_alone, short_alone}
+use Rattle.td_tool.proofs.Explanations.{ends_alone, kept_alone, noted_alone, short_alone}
 use Rattle.td_tool.proofs.answering.do_with_builders.Goals as goal
 
 pub returns-clause-ends : goal.returns-clause-ends
@@ -36,3 +36,9 @@ returns-clause-due g c =
     ends_alone
     (IsDue (g.R.Reader.can_fail c.args.reader.now) (g.W.Writer.can_fail c.args.output.now))
     c.run_with_builders.result c.alone.result c.alone.ensures c.run_with_builders.ensures.due
+
+pub returns-clause-noted : goal.returns-clause-noted
+returns-clause-noted g c =
+    noted_alone (NotesFor c.args.request.now (g.R.Read.remaining c.args.reader.now)
+    (g.T.Texts.bytes c.args.texts.now) (g.T.Texts.can_fail c.args.texts.now))
+    c.run_with_builders.result c.alone.result c.alone.ensures

@@ -1,5 +1,5 @@
 -- `say`: its clauses.
-use Rattle.std.proofs.Common.{◌≡◌, OnOk, rules, subst, sym, true}
+use Rattle.std.proofs.Common.{◌≡◌, OnOk, option_map, rules, string_bytes, subst, sym, true}
 use Rattle.td_tool.specs.Explained.{FailsOf, SaysAll, SaysOf, known_of_request}
 use Rattle.td_tool.specs.Tracks.{file_at}
 use Rattle.td_tool.proofs.Explanations.{line_alone, said_front, said_not, said_whole}
@@ -9,7 +9,8 @@ pub returns-in_default-clause-front : goal.returns-in_default-clause-front
 returns-in_default-clause-front g c = λ known kept.
     line_alone c.args.explained
     (known_of_request c.args.request.now known (g.T.Texts.bytes c.args.texts.now))
-    c.args.ended.now.ending _ _ c.in_default.ensures.prefix
+    (option_map string_bytes c.args.ended.now.notes) c.args.ended.now.ending _ _
+    c.in_default.ensures.prefix
 
 pub returns-clause-whole : goal.returns-clause-whole
 returns-clause-whole g c = λ known kept.
@@ -32,7 +33,8 @@ returns-clause-front g c = λ known kept.
     let texts = known_of_request c.args.request.now known (g.T.Texts.bytes c.args.texts.now) in
     let before = g.E.Write.contents c.args.faults.now in
     let said = g.E.Write.contents c.put_explanation.new.faults in
-    subst (λ b. SaysOf b texts c.args.ended.now.ending before said) (sym asked)
+    subst (λ b. SaysOf b texts (option_map string_bytes c.args.ended.now.notes)
+    c.args.ended.now.ending before said) (sym asked)
     (said_front texts c.args.ended.now c.args.request.now (g.T.Texts.can_be c.args.texts.now)
     (g.T.Texts.can_pack c.args.texts.now) before _ said c.explanation.result
     c.put_explanation.result c.in-Ok.ensures.whole (c.explanation.ensures.line known kept)

@@ -18,6 +18,13 @@ returns-in-Planned g c =
     GivenSays (saying_of a) o.archive.now o.rows (tracking given.now.tracker)
     (string_bytes said)))) (sym c.in-Planned.is) c.opened_plan.ensures
 
+pub returns-in-Detailed : goal.returns-in-Detailed
+returns-in-Detailed g c =
+    let o = c.args.opened in
+    subst (λ a. IfOk c.opened_details.result (λ said. IfSome o.tracker (λ given.
+    GivenSays (saying_of a) o.archive.now o.rows (tracking given.now.tracker)
+    (string_bytes said)))) (sym c.in-Detailed.is) c.opened_details.ensures
+
 pub returns-in-Ordered : goal.returns-in-Ordered
 returns-in-Ordered g c =
     let o = c.args.opened in

@@ -8,7 +8,8 @@ use Rattle.td_words.proofs.command.track.Goals as goal
 pub returns-clause-shape : goal.returns-clause-shape
 returns-clause-shape c =
     let start : app_of c.after_help-command.result ≡ new_app (codes "track") = search rules in
-    IfOk-weaker c.explained.result _ (λ r. shape_of r ≡ track_shape)
+    IfOk-weaker c.explained.result _ (λ r. shape_of r ≡ track_shape c.args.strict)
     (λ r e. ap (λ a. a.top)
-    (e ∙ ap with_explanation (c.in_ok-command.ensures.app ∙ ap with_report_rules start)))
+    (e ∙ ap with_explanation
+    (c.in_ok-command.ensures.app ∙ ap (with_report_rules c.args.strict) start)))
     c.explained.ensures.app

@@ -13,5 +13,6 @@ returns-clause-app c =
     (c.in_ok-command-3.ensures.app
     ∙ ap (λ a. with_rule a (option_of (codes "state")))
     (c.in_ok-command-2.ensures.app
-    ∙ ap (λ a. with_rule a (needed_option (codes "message"))) c.in_ok-command.ensures.app))
+    ∙ ap (λ a. with_rule a (needed_option c.args.strict (codes "message")))
+    c.in_ok-command.ensures.app))
     c.with_option-2.ensures.app

@@ -1,5 +1,5 @@
 -- `words_of_a_check_ask_for_it`: the clauses `joined`, `separate` and `explained`.
-use Rattle.td_words.proofs.Asking.{asks_for_check, check_explains}
+use Rattle.td_words.proofs.CheckAsking.{asks_for_check, check_explains}
 use Rattle.td_words.proofs.WordsApart.{asks_apart}
 use Rattle.td_words.proofs.laws.words_of_a_check_ask_for_it.Goals as goal
 

@@ -28,3 +28,8 @@ returns-in_err-words-clause-said c archs packages sources tracker message has te
     let r = c.from_residual-in_err-words in
     let p = err_from_is_err_and r.result r.ensures.1 in
     rw (p.1, p.2) (c.in_err-words.ensures.said message text)
+
+pub returns-in_err-files-clause-lacking : goal.returns-in_err-files-clause-lacking
+returns-in_err-files-clause-lacking c archs packages sources folder has none given =
+    let p = err_from_is_err_and c.from_residual.result c.from_residual.ensures.1 in
+    rw (p.1, p.2) (memory_said _ _ (c.in_err-files.ensures.files archs packages sources has))
