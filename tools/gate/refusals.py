@@ -6,7 +6,7 @@ import lzma
 import os
 
 import cases
-from runs import TOO_LONG
+from runs import TOO_LONG, UNREAD, UNWRITTEN
 
 COMMANDS = ("check", "track", "waves", "plan", "run")
 # The words that a subcommand needs besides its files.
@@ -61,6 +61,10 @@ MADE = [
      "Package: qb\nVersion: 1\nArchitecture: any\n\n \t\n\n"
      "Package: rc\nDescription: one\n .\n two\nArchitecture: any\n",
      "MissingField", 'stanza 2, line 7 has "Package: rc"; wanted: a field Version'),
+    ("packages", "Version: 1\nArchitecture: amd64\n", "MissingField",
+     'stanza 1, line 1 has "Version: 1"; wanted: a field Package that names a package'),
+    ("packages", f"{AMD64}Source: (1)\n", "MissingField",
+     'stanza 1, line 1 has "Package: yy"; wanted: a field Source that names a package'),
     ("packages", " x\n", "Stanza",
      'line 1 has " x"; wanted: a field, since none is above that could go on here'),
     ("packages", f"{AMD64}Source: bb (1_0)\n", "BadVersion",
@@ -79,10 +83,15 @@ AFFECTS_NOTHING = 'title = "T"; is_affected = false; is_good = true; is_bad = tr
 
 
 def words_of(command, changed, *others):
-    """The words of a subcommand over the archive `waves`, with other files for some roles."""
-    files = {**WAVES, **changed}
+    """The words of a subcommand over the archive `waves`, with other files for some roles. A check
+    has a tracker, and details, only if another one is given."""
+    files, needed = {**WAVES, **changed}, NEEDED.get(command, ())
+    if command == "check" and "tracker" in changed:
+        needed = ["--details"]
+    elif command == "check":
+        del files["tracker"]
     read = {role: files[role] for role in cases.READ_BY[command] if role in files}
-    return [command, *NEEDED.get(command, ()), *others, *cases.options(read)]
+    return [command, *needed, *others, *cases.options(read)]
 
 
 def said_of(role, fault, *more):
@@ -90,12 +99,23 @@ def said_of(role, fault, *more):
     return "".join(f"{line}\n" for line in (f"transdesk: {role}: {fault}", *more)).encode()
 
 
+def forms_of(command):
+    """The further words by which a subcommand is run: `run` also has builders."""
+    return ((), ("--builders", "1")) if command == "run" else ((),)
+
+
 def by_each(runs, name, role, path, said):
-    """A file is refused, and explained, by each subcommand that reads its role."""
+    """A file is refused, and explained, by each subcommand that reads its role; by `run` without
+    and with a builder, where standard input is a folder, and where it is a script."""
+    script = runs.put("script", "row te amd64\n")
     for command in COMMANDS:
-        if role in cases.READ_BY[command]:
-            found = runs.end(words_of(command, {role: path}, "--explain"))
-            runs.compare(f"{name}, explained by {command}", found, 2, stderr=said)
+        if role not in cases.READ_BY[command]:
+            continue
+        for others in forms_of(command):
+            words = words_of(command, {role: path}, "--explain", *others)
+            for given in (None, script) if command == "run" else (None,):
+                what = f"{name}, explained by {' '.join((command, *others))}"
+                runs.compare(what, runs.end(words, given), 2, stderr=said)
 
 
 def made(runs):
@@ -241,12 +261,14 @@ def missing(runs):
     no_text = runs.put("no-text", b"\xff")
     for command in COMMANDS:
         for role in cases.READ_BY[command]:
-            for path, why in (("nowhere", NOWHERE), (runs.room, FOLDER)):
-                found = runs.end(words_of(command, {role: path}, "--explain"))
-                runs.compare(f"{role} of {command}, {why}, explained", found, 5, stderr=unread(role, path, why))
-            found = runs.end(words_of(command, {role: no_text}, "--explain"))
-            said = said_of(role, "NotText", f"{role}: wanted: a text in UTF-8")
-            runs.compare(f"{role} of {command} is no text, explained", found, 2, stderr=said)
+            for others in forms_of(command):
+                what = f"{role} of {' '.join((command, *others))}"
+                for path, why in (("nowhere", NOWHERE), (runs.room, FOLDER)):
+                    found = runs.end(words_of(command, {role: path}, "--explain", *others))
+                    runs.compare(f"{what}, {why}, explained", found, 5, stderr=unread(role, path, why))
+                found = runs.end(words_of(command, {role: no_text}, "--explain", *others))
+                said = said_of(role, "NotText", f"{role}: wanted: a text in UTF-8")
+                runs.compare(f"{what} is no text, explained", found, 2, stderr=said)
 
 
 def two_faults(runs, command, roles, first, second, fit):
@@ -331,7 +353,56 @@ def strange_rows(runs):
     runs.compare("outcomes that are no text", found, 2, stderr=said_of("outcomes", "NotText"))
 
 
+def refused_beside_scripts(runs):
+    """State files and a pattern that are refused by `run`, with a script that can be read, and with
+    one that can't."""
+    files = cases.archive("foobar")
+    row = "wanted: a row, as KEY STATE PRIORITY NUMBER"
+    faults = [
+        ("state", "x\n", "BadLine", f'line 1 has "x"; {row}'),
+        ("state", "foo/amd64 Failed 0 0\nfoo/amd64 Failed 0 0\n", "Twice",
+         'line 2 has "foo/amd64 Failed 0 0"; wanted: a key that no line above has'),
+        ("state", "foo/amd64 Building=1 0 0\n", "NotOpening",
+         'line 1 has "foo/amd64 Building=1 0 0"; wanted: a state other than Building'),
+        ("state", "zz/amd64 Installed 0 0\n", "NoSuchRow",
+         'line 1 has "zz/amd64 Installed 0 0"; wanted: a row that the indices give'),
+        ("tracker", "is_affected = .a ~ /x(?!1)/;", "BadPattern",
+         'byte 19, line 1, column 20 has "/x(?!1)/;"; wanted: '
+         "a pattern that regex takes: no look-around, back reference or open bracket"),
+    ]
+    scripts = {
+        "a script": runs.put("script", "row foo amd64\n"),
+        "a script that is too long": runs.put("too-long", bytes(1_048_577)),
+        "a script that is no text": runs.put("no-text", b"\xff"),
+    }
+    for role, text, fault, why in faults:
+        path = runs.put("made", text)
+        said = said_of(role, fault, f"{role}: {why}")
+        for others in forms_of("run"):
+            words = ["run", "--explain", *others, *cases.options({**files, role: path})]
+            for what, script in scripts.items():
+                what = f"{fault} of {role}, {what}, {' '.join(others)}"
+                runs.compare(what, runs.end(words, script), 2, stderr=said)
+
+
+def unspoken(runs):
+    """What ends a run is said in its own line, if an explanation is asked for, too: output that
+    can't be written, and standard input that can't be read."""
+    if os.path.exists("/dev/full"):
+        with open("/dev/full", "wb") as full:
+            for command in ("check", "track", "waves", "plan"):
+                found = runs.end(words_of(command, {}, "--explain"), stdout=full)
+                runs.compare(f"{command} --explain to a full disk", found, 5, stderr=UNWRITTEN)
+            script = runs.put("script", "row te amd64\n")
+            for others in forms_of("run"):
+                found = runs.end(words_of("run", {}, "--explain", *others), script, stdout=full)
+                runs.compare("run --explain to a full disk", found, 5, stderr=UNWRITTEN)
+    for words in (["simulate"], *(words_of("run", {}, *others) for others in forms_of("run"))):
+        found = runs.end([*words, "--explain"])
+        runs.compare(f"{words[0]} --explain of a folder", found, 5, stderr=UNREAD)
+
+
 def run_all(runs):
     for group in (made, packed, odd_paths, journals, long_texts, not_read, missing, first_of_two,
-                  of_the_wrong_kind, strange_rows):
+                  of_the_wrong_kind, strange_rows, refused_beside_scripts, unspoken):
         group(runs)
