@@ -51,6 +51,13 @@ fn ends<R: Threads + Wait + Abort + Sync>(
 fn a_desk_is_closed_by_the_receipts_of_all_clerks(rt: HostRuntime) -> Result<(), Fail> {
     ends(&rt, rt.alloc(), "", "closed")?;
     ends(&rt, rt.alloc(), "join => true\n", "closed")?;
+    // (a clerk who has done nothing joins, too)
+    ends(
+        &rt,
+        rt.alloc(),
+        "join => true\npart => true\njoin => true\n",
+        "closed",
+    )?;
     ends(
         &rt,
         rt.alloc(),
@@ -81,6 +88,7 @@ entry 1 => 1 + nmu=1 foo/amd64
 entry 2 => none
 journal => transdesk journal 2|1 + nmu=1 foo/amd64|
 ready => Ok([2])
+installed 0 => None
 nmu 1 foo . ANY => NothingApplies, foo/amd64 State(NeedsBuild), foo/i386 State(Installed)
 arrive foo/amd64 => Err(DoesNotApply(NeedsBuild))
 sweep => Ok(None)
@@ -159,6 +167,8 @@ arrive foo/amd64 => Err(DoesNotApply(Building(1)))
 gb foo . ANY => entry 3, foo/amd64 State(Building(1))
 nmu foo . amd64 => NothingApplies, foo/amd64 State(Building(1))
 end built => Some(Ok(4))
+end built => Some(Err(NothingHeld))
+end attempted => Some(Err(NothingHeld))
 arrive foo/amd64 => Ok(5)
 receipts => [1024: made 2 foo/i386; made 3 foo/i386; made 5 foo/amd64;]
 ";

@@ -21,6 +21,7 @@ foo/i386 Installed 0 1
 ";
 
 const AFTER_LEFT: &str = "\
+installed 0 => None
 receipts => [1024:]
 entry 3 => 3 + givenback=1 foo/amd64
 entry 4 => none

@@ -127,6 +127,15 @@ fn key_at<N: Named, C: Ledger>(
     Ok(String::from_str(alloc, name)?)
 }
 
+// How many rows of a group the desk's book watches that are Installed.
+fn installed<N: Named, C: Ledger, R: Wait>(
+    rt: &R,
+    desk: &Desk<'static, N, C>,
+    group: usize,
+) -> Option<usize> {
+    desk.look(rt, |book| book.installed(group))
+}
+
 // The numbers of the rows that wait for a builder.
 fn ready<N: Named, C: Ledger, R: Wait>(
     rt: &R,
@@ -151,6 +160,7 @@ fn ask<N: Named, C: Ledger, R: Wait>(
         "entry" => entry(rt, alloc, desk, number(rest)),
         "journal" => journal(rt, alloc, desk),
         "ready" => shown(alloc, &ready(rt, desk)),
+        "installed" => shown(alloc, &installed(rt, desk, number(rest) as usize)),
         _ => call_by(rt, desk, people, 0, line),
     }
 }
