@@ -95,7 +95,45 @@ class Archive:
         """The line of a check."""
         return [f"sources {len(self.sources)} binaries {len(self.binaries)} rows {len(self.keys())}"]
 
+    def details(self, cut=()):
+        """What a check's details say, where the texts of these indices don't end with a newline."""
+        rows, lines, warnings = self.opening_rows(), [], []
+        for name in self.names:
+            own = sum(package.arch == name for package in self.binaries.values())
+            there = [row for key, row in rows.items() if key[1] == name]
+            queued = sum(row.state == "Needs-Build" for row in there)
+            lines.append(f"arch {name} binaries {own} rows {len(there)} needs-build {queued}")
+            warnings += [] if own else [f"warning: Packages has no package of {name}"]
+        for index, of, stanzas, has, lacks in (
+            ("Packages", "sources", self.binaries, "directory", "filename"),
+            ("Sources", "packages", self.sources, "filename", "directory"),
+        ):
+            fields = [stanza.all_fields() for stanza in stanzas.values()]
+            count = sum(has in it and lacks not in it for it in fields)
+            warnings += [f"warning: {index} has stanzas of {of}: {count}"] if count else []
+        warnings += [f"warning: {index} doesn't end with a newline: it may be cut off"
+                     for index in ("Packages", "Sources") if index in cut]
+        return lines + warnings
+
     # ---- trackers
+
+    def asked(self, tracker):
+        """What a check's details say of a tracker."""
+        packages = [package.all_fields() for package in self.binaries.values()]
+        sources = [source.all_fields() for source in self.sources.values()]
+        asked = list({query.text(): query for whole in tracker.queries for query in whole.asked()}.values())
+        lines = [
+            f'tracker {query.form} .{query.parts[0]} "{query.parts[1]}"'
+            f" packages {sum(map(query.holds, packages))} sources {sum(map(query.holds, sources))}"
+            for query in asked
+        ]
+        fields = dict.fromkeys(query.parts[0] for query in asked)
+        lines += [f"warning: no stanza has the field .{field}" for field in fields
+                  if not any(field.lower() in it for it in packages + sources)]
+        return lines + [
+            f'warning: a text is no pattern, and no name has one of | ^ $ *: .{query.parts[0]} "{query.parts[1]}"'
+            for query in asked if query.form == "text" and set(query.parts[1]) & set("|^$*")
+        ]
 
     def stanzas(self, key):
         """The fields of a row's stanzas."""
@@ -225,6 +263,13 @@ class Query:
         if self.form == "pattern":
             return f".{self.parts[0]} ~ /{self.parts[1]}/"
         return self.form
+
+    def asked(self):
+        """Its texts and patterns, from the left."""
+        if self.form in ("text", "pattern"):
+            return [self]
+        parts = self.parts if self.form in ("or", "and", "not") else ()
+        return [found for part in parts for found in part.asked()]
 
     def holds(self, fields):
         """Whether it holds of a stanza."""
