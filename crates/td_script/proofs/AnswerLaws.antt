@@ -12,11 +12,13 @@ use Rattle.td_rows.specs.declared.key.Key.{Key}
 use Rattle.td_rows.specs.declared.kind.Kind.TheVariants as kinds
 use Rattle.td_rows.specs.declared.row.Row.{Row}
 use Rattle.td_rows.specs.declared.state.State.{State}
+use Rattle.td_rows.specs.RowLine.{row_line}
 use Rattle.td_rows.specs.StateWord.{state_word}
 use Rattle.td_rows.specs.Table.{row_of}
 use Rattle.td_journal.specs.declared.entry.Entry.{Entry}
 use Rattle.td_journal.specs.declared.entry.Marked.{Marked}
 use Rattle.td_journal.specs.Entries.{entry_at, standing_entry}
+use Rattle.td_journal.specs.JournalText.{entry_line}
 use Rattle.td_journal.proofs.LastEntry.{entry_at-last}
 use Rattle.td_core.specs.History.{History, rows_of, with_entry}
 use Rattle.td_core.specs.Refusals.{is_queued_at}
@@ -29,8 +31,9 @@ use Rattle.td_book.specs.Arriving.{ArriveOutcome, SweepOutcome, freed_now}
 use Rattle.td_book.specs.Calls.{noting, noting_one, is_lost, off_for}
 use Rattle.td_book.specs.Undoing.{IsWon, UndoAnswer}
 use Rattle.td_script.specs.Replies.{Reply, enters, entry_made, arrives, sweeps, undoes, refuses}
-use Rattle.td_script.specs.Replies.{refusal_line, says, state_refused, undo_name}
-use Rattle.td_script.specs.Replying.{IsPut, IsEntryPut, IsArrivalPut, IsSweepPut, IsUndoPut}
+use Rattle.td_script.specs.Replies.{ended, refusal_line, says, shows_row, state_refused, undo_name}
+use Rattle.td_script.specs.Replying.{IsPut, IsEntryPut, IsArrivalPut, IsFoundPut, IsRowPut}
+use Rattle.td_script.specs.Replying.{IsSweepPut, IsUndoPut}
 use Rattle.td_script.specs.Answering.{Answers, IsLeftBy}
 
 -- ---- 1. the last entry
@@ -97,6 +100,43 @@ pub Answers-said : (text : List ℕ) (book : BookModel) (before now : List ℕ) 
     → Answers (says book.history text) book book before now refused
 Answers-said text book before now refused put =
     record { text = put.text_is; history = refl; refusal = put.refusal; fixed = refl }
+
+-- the line of a key's row, or that it has none, is said
+pub Answers-row : (k : Key) (o : Option Row) (book : BookModel) (before now : List ℕ)
+    (refused : Bool) → IsRowPut k o before now refused
+    → Answers (shows_row book.history k o) book book before now refused
+Answers-row k (Some row) book before now refused put =
+    Answers-said (ended (row_line (k, row))) book before now refused put
+Answers-row k None book before now refused put =
+    record {
+      text = put.text_is
+          ∙ ap (λ (l : List ℕ). before ++ l) (sym (append-nil (refusal_line (codes "NoSuchRow"))));
+      history = refl;
+      refusal = put.refusal;
+      fixed = refl;
+    }
+
+-- the line of an entry that is found, or that there is none
+abbrev pub found_entry : History → ℕ → Option Marked → Reply
+found_entry h n o = elim o [
+  | Some m ↦ says h (ended (entry_line n m))
+  | None ↦ refuses h (codes "NoSuchEntry") []
+]
+
+pub Answers-entry : (n : ℕ) (o : Option Marked) (book : BookModel) (before now : List ℕ)
+    (refused : Bool) → IsFoundPut n o before now refused
+    → Answers (found_entry book.history n o) book book before now refused
+Answers-entry n (Some m) book before now refused put =
+    Answers-said (ended (entry_line n m)) book before now refused put
+Answers-entry n None book before now refused put =
+    record {
+      text = put.text_is
+          ∙ ap (λ (l : List ℕ). before ++ l)
+          (sym (append-nil (refusal_line (codes "NoSuchEntry"))));
+      history = refl;
+      refusal = put.refusal;
+      fixed = refl;
+    }
 
 -- an entry is made, and said with what stands behind it
 pub Answers-made : (e : Entry) (behind : List ℕ) (old new : BookModel) (ms : List Marked) (n : ℕ)

@@ -2,9 +2,13 @@
 use Rattle.std.specs.Prelude.{◌≡◌, ℕ, Bool, true, false, List, [], ◌++◌, Option, Some, None, Result}
 use Rattle.std.specs.Prelude.{Ok, Err, codes, decimal}
 use Rattle.std.specs.List.{flat_map}
+use Rattle.td_rows.specs.declared.key.Key.{Key}
+use Rattle.td_rows.specs.declared.row.Row.{Row}
+use Rattle.td_rows.specs.RowLine.{row_line}
 use Rattle.td_rows.specs.StateWord.{state_word}
 use Rattle.td_journal.specs.declared.entry.Marked.{Marked}
 use Rattle.td_journal.specs.Entries.{entry_at}
+use Rattle.td_journal.specs.JournalText.{entry_line}
 use Rattle.td_book.specs.declared.arriving.ArriveRefusal.{ArriveRefusal}
 use Rattle.td_book.specs.declared.arriving.ArriveRefusal.TheVariants as arrivals
 use Rattle.td_book.specs.declared.commanding.CommandRefusal.{CommandRefusal}
@@ -18,6 +22,19 @@ use Rattle.td_script.specs.Replies.{ended, entry_made, refusal_line, skip_line, 
 pub record IsPut (text : List ℕ) (is : Bool) (before now : List ℕ) (refused : Bool) : Type 0 where
   pub text_is : now ≡ before ++ text
   pub refusal : refused ≡ is
+
+-- the line of a key's row, or the refusal that it has none
+abbrev pub IsRowPut : Key → Option Row → List ℕ → List ℕ → Bool → Type 0
+IsRowPut k (Some row) before now refused =
+    IsPut (ended (row_line (k, row))) false before now refused
+IsRowPut k None before now refused =
+    IsPut (refusal_line (codes "NoSuchRow")) true before now refused
+
+-- the line of entry n, or the refusal that there is none
+abbrev pub IsFoundPut : ℕ → Option Marked → List ℕ → List ℕ → Bool → Type 0
+IsFoundPut n (Some m) before now refused = IsPut (ended (entry_line n m)) false before now refused
+IsFoundPut n None before now refused =
+    IsPut (refusal_line (codes "NoSuchEntry")) true before now refused
 
 -- the line of the entry that a journal has under a number, and a text after it
 abbrev pub IsEntryPut : List Marked → ℕ → List ℕ → List ℕ → List ℕ → Bool → Type 0

@@ -12,9 +12,9 @@ ghost use Rattle.td_script.specs.Replies.{undoes, arrives, sweeps, shows_row, sh
 ghost use Rattle.td_script.specs.Replies.{reports as reports_of};
 ghost use Rattle.td_script.specs.Replying.{IsPut};
 
-use crate::replying::{put_arrival, put_sweep, put_undo};
+use crate::replying::{put_arrival, put_asked_entry, put_asked_row, put_sweep, put_undo};
 use crate::reports::Reports;
-use crate::writing::{put_entry, put_row, refuse};
+use crate::writing::refuse;
 use std::alloc::{AllocError, Global};
 use td_board::Board;
 use td_book::Book;
@@ -78,10 +78,7 @@ pub fn show_row(book: &Book<'_>, key: &Key, out: &mut String) -> Result<bool, Al
         book.now (string_bytes out.old) (string_bytes out.new)) }
     ensures err { OnErr result (string_bytes out.new ≡ string_bytes out.old) }
 {
-    match book.rows().get(key) {
-        Some(row) => put_row(out, key, row).and(Ok(false)),
-        None => refuse(out, "NoSuchRow"),
-    }
+    put_asked_row(out, key, book.rows().get(key))
 }
 
 /// Shows an entry.
@@ -90,10 +87,7 @@ pub fn show_entry(book: &Book<'_>, n: EntryNo, out: &mut String) -> Result<bool,
         (string_bytes out.old) (string_bytes out.new)) }
     ensures err { OnErr result (string_bytes out.new ≡ string_bytes out.old) }
 {
-    match book.journal().entry(n) {
-        Some(marked) => put_entry(out, n, marked).and(Ok(false)),
-        None => refuse(out, "NoSuchEntry"),
-    }
+    put_asked_entry(out, n, book.journal().entry(n))
 }
 
 /// Shows the journal.

@@ -32,13 +32,14 @@ pub use dispatch::answer;
 pub use inputs::Inputs;
 pub use laws::cut_scripts_tell_the_same;
 pub use lent::Lent;
-pub use line::{Said, asked_lines_are_requests, read_line};
+pub use line::{Said, asked_lines_are_requests, first_word, read_line};
 pub use replying::{
-    put_arrival, put_arrival_refusal, put_command, put_command_refusal, put_sweep, put_undo,
+    put_arrival, put_arrival_refusal, put_asked_entry, put_asked_row, put_command,
+    put_command_refusal, put_sweep, put_undo,
 };
 pub use reports::Reports;
-pub use request::{Request, read_request, request_lines_are_exact};
+pub use request::{Request, read_own_key, read_request, request_lines_are_exact};
 pub use running::{RunFault, SCRIPT_LIMIT, ScriptEnd, judge_files, run_script, run_with};
 pub use staff::{Alone, Asked, Staff, tell_alone};
 pub use told::{Told, tell};
-pub use writing::{put_refusal, put_skips, put_taken};
+pub use writing::{put_refusal, put_skips, put_state_refusal, put_taken, refuse};

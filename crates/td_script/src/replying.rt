@@ -1,16 +1,50 @@
 //! What is written of the answers of a book's calls. Each function says whether the line is
 //! refused. If memory runs out, or had run out in the book's call, it appends nothing.
 ghost use Rattle.std.specs.Prelude.{◌≡◌, IfOk, OnErr};
+ghost use Rattle.std.specs.Option.{option_copied};
 ghost use Rattle.std.specs.String.{string_bytes};
 ghost use Rattle.td_script.specs.Replying.{IsArrivalPut, IsArrivalRefused, IsCommandPut};
-ghost use Rattle.td_script.specs.Replying.{IsCommandRefused, IsSweepPut, IsUndoPut};
+ghost use Rattle.td_script.specs.Replying.{IsCommandRefused, IsFoundPut, IsRowPut, IsSweepPut};
+ghost use Rattle.td_script.specs.Replying.{IsUndoPut};
 
 use crate::writing::{
-    put_entered, put_made, put_nothing, put_state_refusal, put_undo_refusal, put_undone, refuse,
+    put_entered, put_entry, put_made, put_nothing, put_row, put_state_refusal, put_undo_refusal,
+    put_undone, refuse,
 };
 use std::alloc::AllocError;
 use td_book::{ArriveRefusal, CommandRefusal, Taken, UndoRefusal};
-use td_journal::{EntryNo, Journal};
+use td_journal::{EntryNo, Journal, Marked};
+use td_rows::{Key, Row};
+
+/// Appends the line of a key's row, or that it has none.
+pub fn put_asked_row(out: &mut String, key: &Key, row: Option<&Row>) -> Result<bool, AllocError>
+    ensures ok { IfOk result
+        (IsRowPut key.now (option_copied row.entry) (string_bytes out.old)
+        (string_bytes out.new)) }
+    ensures err { OnErr result (string_bytes out.new ≡ string_bytes out.old) }
+{
+    match row {
+        Some(row) => put_row(out, key, row).and(Ok(false)),
+        None => refuse(out, "NoSuchRow"),
+    }
+}
+
+/// Appends the line of entry n, or that there is none.
+pub fn put_asked_entry(
+    out: &mut String,
+    n: EntryNo,
+    marked: Option<&Marked>,
+) -> Result<bool, AllocError>
+    ensures ok { IfOk result
+        (IsFoundPut n (option_copied marked.entry) (string_bytes out.old)
+        (string_bytes out.new)) }
+    ensures err { OnErr result (string_bytes out.new ≡ string_bytes out.old) }
+{
+    match marked {
+        Some(marked) => put_entry(out, n, marked).and(Ok(false)),
+        None => refuse(out, "NoSuchEntry"),
+    }
+}
 
 /// Appends what an undo answered.
 pub fn put_undo(

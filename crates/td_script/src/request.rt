@@ -67,8 +67,8 @@ fn read_spaced(text: &str) -> Option<(&str, &str)>
     cut_at(text, ' ').filter(|(source, arch)| is_name(source) && is_arch(arch))
 }
 
-// A key whose source and architecture have a space between them, in memory of its own.
-fn read_own_key(alloc: Global, text: &str) -> Result<Option<Key>, AllocError>
+/// The key of a source and an architecture with a space between them, in memory of its own.
+pub fn read_own_key(alloc: Global, text: &str) -> Result<Option<Key>, AllocError>
     ensures { MatchResult result (λ key. key ≡ spaced_key_at text.now)
         (λ _. IsSome (spaced_key_at text.now)) }
 {
