@@ -1,0 +1,7 @@
+-- `fitting`: what it answers.
+use Rattle.std.proofs.Common.{rules}
+use Rattle.std.proofs.lemmas.Fn.{filter_same}
+use Rattle.td_lasting.proofs.looking.fitting.Goals as goal
+
+pub returns : goal.returns
+returns c = filter_same _ _ _ (λ x b f' k. search rules) _ _ c.retain.ensures.filtered
