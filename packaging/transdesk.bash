@@ -3,7 +3,7 @@
 
 _transdesk() {
     local word=${COMP_WORDS[COMP_CWORD]} before=${COMP_WORDS[COMP_CWORD - 1]}
-    local subcommands="simulate check track waves plan run help" options="--explain --help"
+    local subcommands="simulate check track waves plan run desk help" options="--explain --help"
     COMPREPLY=()
     if [ "$COMP_CWORD" -eq 1 ]; then
         mapfile -t COMPREPLY < <(compgen -W "$subcommands --help --version" -- "$word")
@@ -31,6 +31,10 @@ _transdesk() {
     run)
         options="--archs --packages --sources --folder --state --tracker --suite --builders"
         options="$options --outcomes --journal --explain --help"
+        ;;
+    desk)
+        options="--journal --archs --packages --sources --folder --state --tracker --suite --wait"
+        options="$options --explain --help"
         ;;
     simulate) ;;
     *) return ;;

@@ -11,6 +11,7 @@ _transdesk() {
         'waves:list the sources of a transition by levels'
         'plan:write the lines that rebuild a transition'
         'run:do what a script says over the rows of an archive'
+        'desk:answer each line at once, and keep what is done'
         'help:tell of a subcommand'
     )
     indices=(
@@ -51,6 +52,12 @@ _transdesk() {
                 '--suite=[the suite that lines name]:suite:' '--builders=[how many build]:builders:' \
                 '--outcomes=[how builds end]:file:_files' '--journal=[what to go on with]:file:_files' \
                 $explain '--help[tell of the subcommand]'
+            ;;
+        desk)
+            _arguments '--journal=[the file that keeps what was done]:file:_files' $indices $tracker \
+                '--state=[rows in the place of others]:file:_files' \
+                '--suite=[the suite that lines name]:suite:' \
+                '--wait[wait while another desk has the file]' $explain '--help[tell of the subcommand]'
             ;;
         waves)
             _arguments $indices $tracker '--steps[list by steps]' \

@@ -2,7 +2,9 @@
 use std::alloc::Global;
 use std::thread::Threads;
 use td_bytes::TextFault;
-use td_tool::{Cause, Packing, Texts, packing_of};
+use td_ledger::Memory;
+use td_session::OpenRefusal;
+use td_tool::{Cause, Desks, Packing, Texts, packing_of};
 
 /// Files that have their paths as texts, so that each path leads to one. One with an empty line is
 /// read as its front and its rest.
@@ -54,5 +56,18 @@ impl Texts for PathTexts {
 
     fn packing(&self, path: &str) -> Option<Packing> {
         packing_of(path.as_bytes())
+    }
+}
+
+// No desk is kept in them.
+impl Desks for PathTexts {
+    ghost use Rattle.td_crew_tests.specs.PathTexts.{no_desks};
+
+    type Opened = Memory;
+
+    ghost desks = { λ _. no_desks };
+
+    fn open_desk(&self, _path: &str, _waits: bool) -> Result<Memory, OpenRefusal> {
+        Err(OpenRefusal::CannotRead)
     }
 }

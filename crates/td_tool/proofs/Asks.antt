@@ -7,28 +7,31 @@ use Rattle.std.specs.declared.alloc.Global.{Global}
 use Rattle.std.specs.Io.KnownBytes.{Keeps}
 use Rattle.td_bytes.specs.declared.text.TextFault.{TextFault}
 use Rattle.td_report.specs.Transition.{IsReportOf}
-use Rattle.td_words.specs.Asked.{RequestWords, check_of, plan_of, report_of, request_words}
+use Rattle.td_words.specs.Asked.{RequestWords, check_of, desk_of, plan_of, report_of}
+use Rattle.td_words.specs.Asked.{request_words}
 use Rattle.td_words.specs.Asked.{run_of, simulation, waves_of}
 use Rattle.td_words.specs.CheckWords.{CheckWords}
 use Rattle.td_words.specs.CommandLine.{RunWords, TrackWords, WavesWords, is_explained, options_of}
+use Rattle.td_words.specs.DeskWords.{DeskWords}
 use Rattle.td_words.specs.PlanWords.{PlanWords}
 use Rattle.td_tool.specs.FolderFiles.{AskFound, Causes, TellsWhich}
 use Rattle.td_words.specs.declared.request.Call.{Call}
 use Rattle.td_words.specs.declared.request.Request.{Request}
 use Rattle.td_words.specs.declared.request.Request.TheVariants.{Simulate, Check, Track, Waves}
-use Rattle.td_words.specs.declared.request.Request.TheVariants.{Plan, Run}
+use Rattle.td_words.specs.declared.request.Request.TheVariants.{Plan, Run, Desk}
 use Rattle.td_words.specs.declared.request.WordsFault.{WordsFault}
 use Rattle.td_words.specs.declared.request.WordsFault.TheVariants as words_fault
 use Rattle.td_tool.specs.declared.ending.Ending.{Ending}
 use Rattle.td_tool.specs.declared.ending.Ending.TheVariants.{NoMemory}
 use Rattle.td_inputs.specs.declared.role.Role.{Role}
 use Rattle.td_tool.specs.Ends.{Ends}
-use Rattle.td_tool.specs.Explained.{Given, check_paths, known_at, known_input, plan_paths}
-use Rattle.td_tool.specs.Explained.{run_paths}
+use Rattle.td_tool.specs.Explained.{Given, check_paths, desk_paths, known_at}
+use Rattle.td_tool.specs.Explained.{known_input, plan_paths, run_paths}
 use Rattle.td_tool.specs.Explained.{track_paths, waves_paths}
 use Rattle.td_tool.specs.Program.{IsTold, LeavesInput, OnlyIfAsked, RanFor, are_explained}
 use Rattle.td_tool.specs.CheckEnds.{CheckEnds, CheckEndsWith}
 use Rattle.td_tool.specs.Program.{files_asked, plan_files, waves_files, words_asked}
+use Rattle.td_tool.specs.Desks.{DeskFiles, EndsDesk, desk_files_asked}
 use Rattle.td_tool.specs.Runs.{AreNotes, EndsRun, run_files_asked}
 use Rattle.td_tool.specs.Tracks.{EndsSo, IsPlanWith, waves_says}
 use Rattle.td_tool.specs.Ran.{NoNotes, Ran}
@@ -51,12 +54,13 @@ of_given AsksFor Done words given lent are same answered asks =
 
 module _ (words : List (List ℕ)) (known left : Option (List ℕ))
     (bytes : List ℕ → Option (List ℕ)) (can_fail : List ℕ → TextFault → Bool)
-    (reads writes : Bool) (old new before said : Option (List ℕ)) (status : ℕ) where
+    (desks : DeskFiles) (reads writes : Bool) (old new before said : Option (List ℕ))
+    (status : ℕ) where
   -- what was answered, as the functions below have it
   abbrev HasRun : Result Call WordsFault → Type 0
   HasRun r =
-      IfOk r (λ c. RanFor c.request c.explained known left bytes can_fail reads writes old new
-      before said status)
+      IfOk r (λ c. RanFor c.request c.explained known left bytes can_fail desks reads writes old
+      new before said status)
 
   abbrev WasTold : Result Call WordsFault → Type 0
   WasTold r = IfErr r (λ f. IsTold f old new before said status)
@@ -70,7 +74,8 @@ module _ (words : List (List ℕ)) (known left : Option (List ℕ))
       (Is : Request → Type 0)
       (r : Result Call WordsFault) (explained : Bool)
       → ((q : Request) (b : Bool)
-      → RanFor q b known left bytes can_fail reads writes old new before said status → Is q
+      → RanFor q b known left bytes can_fail desks reads writes old new before said status
+      → Is q
       → Ran Did Noted b texts before said status)
       → (Keeps old new → Did NoMemory) → HasRun r → WasTold r → HasFlag explained r
       → MatchResult r (λ c. Is c.request) (λ e. e ≡ words_fault.NoMemory)
@@ -112,9 +117,13 @@ module _ (words : List (List ℕ)) (known left : Option (List ℕ))
       (EndsRun (run_files_asked bytes can_fail w) w.suite known left old new))
       (AreNotes (run_files_asked bytes can_fail w) w.suite known) b
       (known_at bytes (run_paths w)) before said status
+  RanWords (desk_of w) b =
+      Ran (DueTo reads writes
+      (EndsDesk (desk_files_asked bytes can_fail w) desks w known left old new))
+      NoNotes b (known_at bytes (desk_paths w)) before said status
 
   ran_words : (q : Request) (b : Bool)
-      → RanFor q b known left bytes can_fail reads writes old new before said status
+      → RanFor q b known left bytes can_fail desks reads writes old new before said status
       → RanWords (request_words q) b
   ran_words Simulate b ran = ran
   ran_words (Check p) b ran = ran
@@ -122,9 +131,10 @@ module _ (words : List (List ℕ)) (known left : Option (List ℕ))
   ran_words (Waves r) b ran = ran
   ran_words (Plan r) b ran = ran
   ran_words (Run r) b ran = ran
+  ran_words (Desk r) b ran = ran
 
   ran_same : (w : RequestWords) (q : Request) (b : Bool)
-      → RanFor q b known left bytes can_fail reads writes old new before said status
+      → RanFor q b known left bytes can_fail desks reads writes old new before said status
       → request_words q ≡ w
       → RanWords w b
   ran_same w q b ran is = subst (λ v. RanWords v b) is (ran_words q b ran)
@@ -139,7 +149,7 @@ module _ (words : List (List ℕ)) (known left : Option (List ℕ))
       answered (DueTo reads writes (Ends known old new)) NoNotes (known_input known)
       (λ q. q ≡ Simulate) r explained
       (λ q b ran is. subst (λ x.
-      RanFor x b known left bytes can_fail reads writes old new before said status) is ran)
+      RanFor x b known left bytes can_fail desks reads writes old new before said status) is ran)
       (λ kept. (record { says = kept; only = kept_only known old new kept }, tt))
 
   -- memory ran out for the words of a check
@@ -222,19 +232,41 @@ module _ (words : List (List ℕ)) (known left : Option (List ℕ))
         tt,
       ))
 
+  pub kept_desk : (r : Result Call WordsFault) (explained : Bool) (w : DeskWords) → HasRun r
+      → WasTold r → HasFlag explained r
+      → MatchResult r (λ c. request_words c.request ≡ desk_of w) (λ e. e ≡ words_fault.NoMemory)
+      → Ran (DueTo reads writes
+      (EndsDesk (desk_files_asked bytes can_fail w) desks w known left old new))
+      NoNotes explained (known_at bytes (desk_paths w)) before said status
+  kept_desk r explained w =
+      answered (DueTo reads writes
+      (EndsDesk (desk_files_asked bytes can_fail w) desks w known left old new))
+      NoNotes (known_at bytes (desk_paths w)) (λ q. request_words q ≡ desk_of w) r explained
+      (ran_same (desk_of w))
+      (λ kept. (
+        record {
+          says = inl (refl, kept);
+          only = λ x are readable. tt;
+          untouched = λ tells. (let other : false ≡ true = tells in absurd cc);
+          locked = λ other. absurd cc;
+        },
+        tt,
+      ))
+
   pub only_asked : (can_be : Causes) (r : Result Call WordsFault) → HasRun r → WasTold r
       → HasFlag (is_explained (options_of words)) r
       → MatchResult r (λ c. LeavesInput c.request known left) (λ f. Keeps known left)
       → IfOk r (λ c. AskFound can_be words (request_words c.request))
       → IfErr r (TellsWhich can_be words)
-      → OnlyIfAsked can_be words known left bytes can_fail reads writes old new before said status
+      → OnlyIfAsked can_be words known left bytes can_fail desks reads writes old new before said
+      status
   only_asked can_be (Ok c) ran told flag input asks which =
       inl (
         c.request,
         asks,
         input,
-        subst (λ b. RanFor c.request b known left bytes can_fail reads writes old new before said
-            status) flag ran,
+        subst (λ b. RanFor c.request b known left bytes can_fail desks reads writes old new before
+            said status) flag ran,
       )
   only_asked can_be (Err (words_fault.Usage text)) ran told flag input asks which =
       inr (inl (string_bytes text, which, told.tells), input, told.kept)

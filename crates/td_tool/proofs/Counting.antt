@@ -19,6 +19,7 @@ use Rattle.td_inputs.proofs.OpeningLaws.{rows_there}
 use Rattle.td_tool.specs.declared.ending.Ending.{Ending}
 use Rattle.td_tool.specs.declared.ending.Ending.TheVariants.{Done, Refused, BadInput, NoMemory}
 use Rattle.td_tool.specs.declared.ending.Ending.TheVariants.{CannotRead, CannotWrite}
+use Rattle.td_tool.specs.declared.ending.Ending.TheVariants.{Locked, CannotKeep}
 use Rattle.td_tool.specs.Ending.{ending_of_opening}
 use Rattle.td_tool.specs.Counted.{IsArchiveOf}
 use Rattle.td_tool.specs.CheckInside.{ArchiveText, EndsUnwritten, IsCounted, IsNoArchive, Tells}
@@ -131,6 +132,8 @@ written says a p s text old new CannotWrite is writes = record {
   says = (is.found.0, is.found.1, subst (AppendsPrefix old new) is.found.2 writes);
   only = λ c whole. subst (AppendsPrefix old new) (is.only c whole) writes;
 }
+written says a p s text old new Locked is writes = absurd writes
+written says a p s text old new CannotKeep is writes = absurd writes
 
 -- an ending without a text
 unwritten : (says : ArchiveText) (a p s : List ℕ) (old new : Option (List ℕ)) (ending : Ending)
@@ -146,6 +149,8 @@ unwritten says a p s old new NoMemory is kept =
     record { says = kept; only = λ c whole. kept }
 unwritten says a p s old new (CannotRead role) is kept = absurd is.refused
 unwritten says a p s old new CannotWrite is kept = absurd is.refused
+unwritten says a p s old new Locked is kept = absurd is.refused
+unwritten says a p s old new CannotKeep is kept = absurd is.refused
 
 -- what is counted ends the check so
 pub ends_counted : (says : ArchiveText) (a p s : List ℕ) (counted : Result (String Global) Ending)

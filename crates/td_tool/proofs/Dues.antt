@@ -21,6 +21,7 @@ use Rattle.td_tool.specs.declared.ending.Ended.{Ended}
 use Rattle.td_tool.specs.declared.ending.Ending.{Ending}
 use Rattle.td_tool.specs.declared.ending.Ending.TheVariants.{Done, Refused, BadInput, NoMemory}
 use Rattle.td_tool.specs.declared.ending.Ending.TheVariants.{CannotRead, CannotWrite}
+use Rattle.td_tool.specs.declared.ending.Ending.TheVariants.{Locked, CannotKeep}
 use Rattle.td_tool.specs.CheckEnds.{CheckEndsWith}
 use Rattle.td_tool.specs.CheckInside.{ArchiveText, IsCounted, IsNoArchive, WritesSo}
 use Rattle.td_tool.specs.Checks.{CheckSays, HasFailed, files_of}
@@ -135,6 +136,8 @@ check_due input output details bytes can_fail a p s old new (CannotRead role) (i
     write =
     unread_due input output role (no_input bytes can_fail a p s role text.TooLong failed)
 check_due input output details bytes can_fail a p s old new CannotWrite says write = write refl
+check_due input output details bytes can_fail a p s old new Locked says write = tt
+check_due input output details bytes can_fail a p s old new CannotKeep says write = tt
 
 -- if there is no text to be written, no write has failed
 pub text_uncounted : (says : ArchiveText) (a p s : List ℕ) (counted : Result (String Global) Ending)
@@ -167,6 +170,8 @@ written_due input output line old new (BadInput role e) so write = tt
 written_due input output line old new NoMemory so write = tt
 written_due input output line old new (CannotRead role) so write = absurd so
 written_due input output line old new CannotWrite so write = write refl
+written_due input output line old new Locked so write = absurd so
+written_due input output line old new CannotKeep so write = absurd so
 
 says_due : (input output : Bool) (Says : Texts → Saying) (files : TrackFiles)
     (old new : Option (List ℕ)) (ending : Ending) → SaysSo Says files old new ending
@@ -227,6 +232,8 @@ wider input output (CannotRead Tracker) due = tt
 wider input output (CannotRead Outcomes) due = tt
 wider input output (CannotRead Journal) due = tt
 wider input output CannotWrite due = due
+wider input output Locked due = tt
+wider input output CannotKeep due = tt
 
 text_due : (input output : Bool) (f : TextFault) → (f ≡ text.CannotRead → input ≡ true)
     → IsDue input output (ending_of_text f)

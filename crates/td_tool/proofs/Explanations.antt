@@ -34,6 +34,7 @@ path_known (asked.Track w) known bytes r = refl
 path_known (asked.Waves w) known bytes r = refl
 path_known (asked.Plan w) known bytes r = refl
 path_known (asked.Run w) known bytes r = refl
+path_known (asked.Desk w) known bytes r = refl
 
 -- a cause that a path may have is some cause
 some_cause : (can_be : Causes) (path : Option (List ℕ)) (r : Role) (line : List ℕ)

@@ -21,11 +21,12 @@ use Rattle.td_inputs.specs.declared.role.Role.TheVariants.{Input, Archs, Package
 use Rattle.td_inputs.specs.declared.role.Role.TheVariants.{Tracker, Outcomes, Journal}
 use Rattle.td_tool.specs.declared.input_fault.InputFault.{InputFault}
 use Rattle.td_tool.specs.declared.input_fault.InputFault.TheVariants.{TooLong, NotText, Simulation}
-use Rattle.td_tool.specs.declared.input_fault.InputFault.TheVariants.{BadOutcome, Form}
+use Rattle.td_tool.specs.declared.input_fault.InputFault.TheVariants.{BadOutcome, DeskFile, Form}
 use Rattle.td_inputs.specs.declared.form_fault.FormFault.TheVariants as form
 use Rattle.td_tool.specs.declared.ending.Ending.{Ending}
 use Rattle.td_tool.specs.declared.ending.Ending.TheVariants.{Done, Refused, BadInput, NoMemory}
 use Rattle.td_tool.specs.declared.ending.Ending.TheVariants.{CannotRead, CannotWrite}
+use Rattle.td_tool.specs.declared.ending.Ending.TheVariants.{Locked, CannotKeep}
 use Rattle.td_tool.specs.Ending.{ending_of_file}
 use Rattle.td_tool.specs.Counted.{IsArchiveOf, check_text, cut_in}
 use Rattle.td_tool.specs.Checks.{Files, IsTextOf, IsArchiveIn, IsKnownArchive, IsNoText, HasFailed}
@@ -126,6 +127,7 @@ has_fault files t role (Form (form.State e)) texts is = absurd is
 has_fault files t role (Form (form.NoSuchRow n)) texts is = absurd is
 has_fault files t role (Form (form.Tracker e)) texts is = absurd is
 has_fault files t role (BadOutcome n) texts is = absurd is
+has_fault files t role (DeskFile e) texts is = absurd is
 has_fault files t role (Form (form.Journal e)) texts is = absurd is
 
 abbrev archive_in : (files : Files) (t : EarlyTexts) (c : Contents) → AreEarlyTextsIn files t
@@ -153,6 +155,8 @@ check_says details files t old new NoMemory texts says = says
 check_says details files t old new (CannotRead role) texts says = absurd says
 check_says details files t old new CannotWrite texts says =
     (says.0, archive_in files t says.0 texts says.1, says.2)
+check_says details files t old new Locked texts says = says
+check_says details files t old new CannotKeep texts says = says
 
 -- the archive that is known is the one that was read
 archive_read : (files : Files) (t : EarlyTexts) (c : Contents) → AreEarlyTextsIn files t

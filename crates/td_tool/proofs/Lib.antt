@@ -19,3 +19,4 @@ pub mod FormEndings
 pub mod FileEndings
 pub mod Dues
 pub mod Noted
+pub mod Kept

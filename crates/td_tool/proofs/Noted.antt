@@ -25,6 +25,7 @@ use Rattle.td_inputs.specs.declared.role.Role.TheVariants.{Tracker, Outcomes, Jo
 use Rattle.td_tool.specs.declared.ending.Ending.{Ending}
 use Rattle.td_tool.specs.declared.ending.Ending.TheVariants.{Done, Refused, BadInput, NoMemory}
 use Rattle.td_tool.specs.declared.ending.Ending.TheVariants.{CannotRead, CannotWrite}
+use Rattle.td_tool.specs.declared.ending.Ending.TheVariants.{Locked, CannotKeep}
 use Rattle.td_tool.specs.Runs.{AreNotes, RunFiles, ending_of_script}
 use Rattle.td_tool.specs.RunInside.{AreInputsFor, IsFaultOf, IsNotedOver, IsStopped, PlaysInputs}
 use Rattle.td_tool.specs.RunInside.{PlaysUnread, stopped_of}
@@ -223,6 +224,8 @@ any_input input output (CannotRead Tracker) due = tt
 any_input input output (CannotRead Outcomes) due = tt
 any_input input output (CannotRead Journal) due = tt
 any_input input output CannotWrite due = due
+any_input input output Locked due = tt
+any_input input output CannotKeep due = tt
 
 pub due_read : (input output : Bool) (read : Read) (ending : Ending)
     → (IsErrOf read text.CannotRead → input ≡ true)

@@ -22,6 +22,7 @@ use Rattle.td_tool.specs.declared.input_fault.InputFault.TheVariants as refused
 use Rattle.td_tool.specs.declared.ending.Ending.{Ending}
 use Rattle.td_tool.specs.declared.ending.Ending.TheVariants.{Done, Refused, BadInput, NoMemory}
 use Rattle.td_tool.specs.declared.ending.Ending.TheVariants.{CannotRead, CannotWrite}
+use Rattle.td_tool.specs.declared.ending.Ending.TheVariants.{Locked, CannotKeep}
 use Rattle.td_tool.specs.Ending.{ending_of_simulation, ending_of_text}
 use Rattle.td_tool.specs.Ends.{IsText, HasFault, EndsAs, Plays, Says, Ends}
 use Rattle.td_tool.specs.Explained.{IsTextKept}
@@ -43,6 +44,8 @@ tells_as rows steps told old new (BadInput role e) tells so = absurd so
 tells_as rows steps told old new NoMemory tells so = absurd so
 tells_as rows steps told old new (CannotRead role) tells so = absurd so
 tells_as rows steps told old new CannotWrite tells so = subst (AppendsPrefix old new) tells.text so
+tells_as rows steps told old new Locked tells so = absurd so
+tells_as rows steps told old new CannotKeep tells so = absurd so
 
 told_says : (text : List ℕ) (told : Simulated) (old new : Option (List ℕ)) (ending : Ending)
     → TellsSo told old new ending → PlaysText text old new ending → TextSays text old new ending
@@ -52,6 +55,8 @@ told_says text told old new (BadInput role e) so plays = absurd so
 told_says text told old new NoMemory so plays = absurd so
 told_says text told old new (CannotRead role) so plays = absurd so
 told_says text told old new CannotWrite so plays = plays
+told_says text told old new Locked so plays = absurd so
+told_says text told old new CannotKeep so plays = absurd so
 
 untold : (text : List ℕ) (old new : Option (List ℕ)) (e : SimulationFault) → FaultOf text e
     → ((rows : Table) (steps : List Step) → IsSimulation text rows steps → e ≡ fault.NoMemory)
@@ -110,6 +115,7 @@ fault_of text (Simulation (fault.BadStep n)) read is = (read, is)
 fault_of text (Simulation fault.NoMemory) read is = absurd is
 fault_of text (refused.BadOutcome n) read is = absurd is
 fault_of text (refused.Form e) read is = absurd is
+fault_of text (refused.DeskFile e) read is = absurd is
 
 has_fault : (known : Option (List ℕ)) (text : List ℕ) (e : InputFault)
     → IfSome known (λ all. text ≡ all) → IsText text → IsNoSimulation text e
@@ -127,6 +133,8 @@ says known old new text (BadInput role e) same read s =
 says known old new text NoMemory same read s = s
 says known old new text (CannotRead role) same read s = absurd s
 says known old new text CannotWrite same read s = played known old new text CannotWrite same read s
+says known old new text Locked same read s = s
+says known old new text CannotKeep same read s = s
 
 only_so : (known old new : Option (List ℕ)) (text : List ℕ) (ending : Ending)
     → IfSome known (λ all. text ≡ all)
@@ -192,9 +200,12 @@ some_kept (BadInput role NotText) text = tt
 some_kept (BadInput role (Simulation e)) text = refl
 some_kept (BadInput role (refused.BadOutcome n)) text = tt
 some_kept (BadInput role (refused.Form e)) text = tt
+some_kept (BadInput role (refused.DeskFile e)) text = tt
 some_kept NoMemory text = tt
 some_kept (CannotRead role) text = tt
 some_kept CannotWrite text = tt
+some_kept Locked text = tt
+some_kept CannotKeep text = tt
 
 unread_kept : (fault : TextFault) (input : Option (String Global))
     → IsTextKept (ending_of_text fault) input

@@ -19,6 +19,7 @@ use Rattle.td_inputs.specs.declared.role.Role.TheVariants.{Tracker, Outcomes, Jo
 use Rattle.td_tool.specs.declared.ending.Ending.{Ending}
 use Rattle.td_tool.specs.declared.ending.Ending.TheVariants.{Done, Refused, BadInput, NoMemory}
 use Rattle.td_tool.specs.declared.ending.Ending.TheVariants.{CannotRead, CannotWrite}
+use Rattle.td_tool.specs.declared.ending.Ending.TheVariants.{Locked, CannotKeep}
 use Rattle.td_tool.specs.Ending.{ending_of_file, ending_of_form}
 use Rattle.td_tool.specs.Checks.{IsNoText, IsTextOf}
 use Rattle.td_tool.specs.CheckInside.{AreFlags, EndsUnwritten, FileUnread, WritesSo}
@@ -117,6 +118,8 @@ told_whole Says x text old new (BadInput role e) says writes = absurd writes
 told_whole Says x text old new NoMemory says writes = absurd writes
 told_whole Says x text old new (CannotRead role) says writes = absurd writes
 told_whole Says x text old new CannotWrite says writes = (text, says, writes)
+told_whole Says x text old new Locked says writes = absurd writes
+told_whole Says x text old new CannotKeep says writes = absurd writes
 
 -- a run without a text ends as readable texts do, if a pattern or memory is the reason
 told_none : (Says : Saying) (x : Texts) (e : TrackerFault) (old new : Option (List ℕ))

@@ -39,7 +39,7 @@ answered : (t : Option (List ℕ)) (none_refused : Bool)
 answered t true = tt
 answered t false = tt
 
-bad_pattern : (t : Option (List ℕ)) (e : TrackerFault) → script.IsPatternRefused t e
+pub bad_pattern : (t : Option (List ℕ)) (e : TrackerFault) → script.IsPatternRefused t e
     → MayEnd t (ending_of_form (form.Tracker e))
 bad_pattern t (tracker_fault.Syntax place) bad = (tracker_fault.Syntax place, bad, refl)
 bad_pattern t (tracker_fault.MissingKey key) bad = (tracker_fault.MissingKey key, bad, refl)
@@ -162,7 +162,8 @@ play_only n x suite known ending may =
 
 -- ---- known files
 
-same_texts : (files : RunFiles) (x y : Texts) → AreKnownTexts files x → AreTextsOf files y → x ≡ y
+pub same_texts : (files : RunFiles) (x y : Texts) → AreKnownTexts files x → AreTextsOf files y
+    → x ≡ y
 same_texts files x y known read =
     let made = λ (a p s : List ℕ) (st t o j : Option (List ℕ)).
     (let it : Texts = record {
@@ -208,7 +209,8 @@ no_such_text files Journal x (before, (file, is, may)) known =
 
 -- ---- the whole
 
-unread_ends : (files : RunFiles) (x : Texts) (role : Role) (e : TextFault) → FailsAt files role e
+pub unread_ends : (files : RunFiles) (x : Texts) (role : Role) (e : TextFault)
+    → FailsAt files role e
     → AreKnownTexts files x → MayEnd x.tracker (ending_of_file role e)
 unread_ends files x role text_fault.CannotRead failed known = tt
 unread_ends files x role text_fault.TooLong failed known = tt

@@ -19,11 +19,12 @@ use Rattle.td_inputs.specs.declared.role.Role.TheVariants.{Archs}
 use Rattle.td_inputs.specs.Faults.{role_of_archive}
 use Rattle.td_inputs.specs.Inputs.{Texts}
 use Rattle.td_tool.specs.declared.input_fault.InputFault.TheVariants.{TooLong, NotText, Simulation}
-use Rattle.td_tool.specs.declared.input_fault.InputFault.TheVariants.{BadOutcome, Form}
+use Rattle.td_tool.specs.declared.input_fault.InputFault.TheVariants.{BadOutcome, DeskFile, Form}
 use Rattle.td_inputs.specs.declared.form_fault.FormFault.TheVariants as form
 use Rattle.td_tool.specs.declared.ending.Ending.{Ending}
 use Rattle.td_tool.specs.declared.ending.Ending.TheVariants.{Done, Refused, BadInput, NoMemory}
 use Rattle.td_tool.specs.declared.ending.Ending.TheVariants.{CannotRead, CannotWrite}
+use Rattle.td_tool.specs.declared.ending.Ending.TheVariants.{Locked, CannotKeep}
 use Rattle.td_tool.specs.Ending.{ending_of_file}
 use Rattle.td_tool.specs.Counted.{IsArchiveOf, check_text, cut_in}
 use Rattle.td_tool.specs.Limits.{file_limit}
@@ -78,6 +79,7 @@ IsNoArchive a p s (BadInput role TooLong) = ⊥
 IsNoArchive a p s (BadInput role NotText) = ⊥
 IsNoArchive a p s (BadInput role (Simulation e)) = ⊥
 IsNoArchive a p s (BadInput role (BadOutcome n)) = ⊥
+IsNoArchive a p s (BadInput role (DeskFile e)) = ⊥
 IsNoArchive a p s (BadInput role (Form (form.Table table.NoMemory))) = ⊥
 IsNoArchive a p s (BadInput role (Form (form.Table e))) =
     (role ≡ Archs) × table_file.FaultOf (lines_of a) e
@@ -93,6 +95,8 @@ IsNoArchive a p s (BadInput role (Form (form.Journal e))) = ⊥
 IsNoArchive a p s NoMemory = Unit {0}
 IsNoArchive a p s (CannotRead role) = ⊥
 IsNoArchive a p s CannotWrite = ⊥
+IsNoArchive a p s Locked = ⊥
+IsNoArchive a p s CannotKeep = ⊥
 
 -- what is said of three texts: an archive is counted, unless memory runs out
 pub record IsCounted (said : ArchiveText) (a p s : List ℕ)
@@ -112,6 +116,8 @@ WritesSo line old new (BadInput role e) = ⊥
 WritesSo line old new NoMemory = ⊥
 WritesSo line old new (CannotRead role) = ⊥
 WritesSo line old new CannotWrite = AppendsPrefix old new line
+WritesSo line old new Locked = ⊥
+WritesSo line old new CannotKeep = ⊥
 
 -- a run ends so, and nothing is written
 pub record EndsUnwritten (expected : Ending) (old new : Option (List ℕ))
@@ -131,6 +137,8 @@ TextsSay said a p s old new NoMemory = Keeps old new
 TextsSay said a p s old new (CannotRead role) = ⊥
 TextsSay said a p s old new CannotWrite =
     (c : Contents) × IsArchiveOf a p s c × AppendsPrefix old new (said c)
+TextsSay said a p s old new Locked = ⊥
+TextsSay said a p s old new CannotKeep = ⊥
 
 -- three texts end the check so: the ending is as it says, and an archive is counted unless a write
 -- or memory fails

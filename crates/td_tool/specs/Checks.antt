@@ -23,11 +23,12 @@ use Rattle.td_inputs.specs.declared.role.Role.TheVariants.{Tracker, Outcomes, Jo
 use Rattle.td_inputs.specs.Faults.{role_of_archive}
 use Rattle.td_tool.specs.declared.input_fault.InputFault.{InputFault}
 use Rattle.td_tool.specs.declared.input_fault.InputFault.TheVariants.{TooLong, NotText, Simulation}
-use Rattle.td_tool.specs.declared.input_fault.InputFault.TheVariants.{BadOutcome, Form}
+use Rattle.td_tool.specs.declared.input_fault.InputFault.TheVariants.{BadOutcome, DeskFile, Form}
 use Rattle.td_inputs.specs.declared.form_fault.FormFault.TheVariants as form
 use Rattle.td_tool.specs.declared.ending.Ending.{Ending}
 use Rattle.td_tool.specs.declared.ending.Ending.TheVariants.{Done, Refused, BadInput, NoMemory}
 use Rattle.td_tool.specs.declared.ending.Ending.TheVariants.{CannotRead, CannotWrite}
+use Rattle.td_tool.specs.declared.ending.Ending.TheVariants.{Locked, CannotKeep}
 use Rattle.td_tool.specs.Counted.{IsArchiveOf, check_text, cut_in}
 
 -- ---- 1. what is read
@@ -168,6 +169,7 @@ HasFileFault files role TooLong = ⊥
 HasFileFault files role NotText = HasFailed files role text_fault.NotText
 HasFileFault files role (Simulation e) = ⊥
 HasFileFault files role (BadOutcome n) = ⊥
+HasFileFault files role (DeskFile e) = ⊥
 HasFileFault files role (Form (form.Table table.NoMemory)) = ⊥
 HasFileFault files role (Form (form.Table e)) = (role ≡ Archs) × HasTableFault files e
 HasFileFault files role (Form (form.Archive archive.NoMemory)) = ⊥
@@ -196,6 +198,8 @@ CheckSays details files old new (CannotRead role) = IsUnreadable files role × K
 CheckSays details files old new CannotWrite =
     (c : Contents) × (is : IsArchiveIn files c)
     × AppendsPrefix old new (text_in details files c is)
+CheckSays details files old new Locked = ⊥
+CheckSays details files old new CannotKeep = ⊥
 
 -- all three files are known, and are this archive
 pub record IsKnownArchive (files : Files) (c : Contents) : Type 0 where
@@ -224,6 +228,8 @@ EndsCounted text old new (BadInput role e) = ⊥
 EndsCounted text old new NoMemory = Keeps old new
 EndsCounted text old new (CannotRead role) = Keeps old new
 EndsCounted text old new CannotWrite = AppendsPrefix old new text
+EndsCounted text old new Locked = ⊥
+EndsCounted text old new CannotKeep = ⊥
 
 -- a check of these files ends so, with details or without: the ending is as it says, and an archive
 -- is counted unless a write, memory or a read of a file fails

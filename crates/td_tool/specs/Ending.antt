@@ -18,14 +18,16 @@ use Rattle.td_script.specs.declared.running.RunFault.{RunFault}
 use Rattle.td_script.specs.declared.running.RunFault.TheVariants as stopped
 use Rattle.td_inputs.specs.Faults as form_fault
 use Rattle.td_inputs.specs.Faults.{label_of, role_of}
+use Rattle.td_tool.specs.DeskFaults.{desk_file_name}
 use Rattle.td_inputs.specs.declared.role.Role.{Role}
 use Rattle.td_inputs.specs.declared.role.Role.TheVariants as role
 use Rattle.td_tool.specs.declared.input_fault.InputFault.{InputFault}
 use Rattle.td_tool.specs.declared.input_fault.InputFault.TheVariants.{TooLong, NotText, Simulation}
-use Rattle.td_tool.specs.declared.input_fault.InputFault.TheVariants.{BadOutcome, Form}
+use Rattle.td_tool.specs.declared.input_fault.InputFault.TheVariants.{BadOutcome, DeskFile, Form}
 use Rattle.td_tool.specs.declared.ending.Ending.{Ending}
 use Rattle.td_tool.specs.declared.ending.Ending.TheVariants.{Done, Refused, BadInput, NoMemory}
 use Rattle.td_tool.specs.declared.ending.Ending.TheVariants.{CannotRead, CannotWrite}
+use Rattle.td_tool.specs.declared.ending.Ending.TheVariants.{Locked, CannotKeep}
 
 -- ---- 1. a text is refused
 
@@ -80,6 +82,7 @@ input_fault_name NotText = codes "NotText"
 input_fault_name (Simulation e) = fault_name e
 input_fault_name (BadOutcome n) = codes "BadLine"
 input_fault_name (Form e) = form_fault.fault_name e
+input_fault_name (DeskFile e) = desk_file_name e
 
 -- the status; 3 is for words that ask for nothing that can be done
 abbrev pub status_of : Ending → ℕ
@@ -89,6 +92,8 @@ status_of (BadInput r e) = 2
 status_of NoMemory = 4
 status_of (CannotRead r) = 5
 status_of CannotWrite = 5
+status_of Locked = 5
+status_of CannotKeep = 5
 
 -- a line that says what went wrong, and in which part
 abbrev pub line_with : List ℕ → List ℕ → List ℕ
@@ -102,3 +107,5 @@ line_of (BadInput r e) = line_with (label_of r) (input_fault_name e)
 line_of NoMemory = line_with [] (codes "want of memory")
 line_of (CannotRead r) = line_with (label_of r) (codes "cannot read")
 line_of CannotWrite = line_with [] (codes "cannot write")
+line_of Locked = line_with (label_of role.Journal) (codes "Locked")
+line_of CannotKeep = line_with (label_of role.Journal) (codes "cannot write")

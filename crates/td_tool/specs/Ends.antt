@@ -15,6 +15,7 @@ use Rattle.td_inputs.specs.declared.role.Role.TheVariants.{Input}
 use Rattle.td_tool.specs.declared.ending.Ending.{Ending}
 use Rattle.td_tool.specs.declared.ending.Ending.TheVariants.{Done, Refused, BadInput, NoMemory}
 use Rattle.td_tool.specs.declared.ending.Ending.TheVariants.{CannotRead, CannotWrite}
+use Rattle.td_tool.specs.declared.ending.Ending.TheVariants.{Locked, CannotKeep}
 
 -- a text that is read: within the limit, and UTF-8
 abbrev pub IsText : List ℕ → Type 0
@@ -28,6 +29,7 @@ HasFault input (Simulation fault.NoMemory) = ⊥
 HasFault input (Simulation e) = IsText input × FaultOf input e
 HasFault input (refused.BadOutcome n) = ⊥
 HasFault input (refused.Form e) = ⊥
+HasFault input (refused.DeskFile e) = ⊥
 
 -- these rows and steps were read, from all that the reader had
 pub record WereRead (known : Option (List ℕ)) (rows : Table) (steps : List Step) : Type 0 where
@@ -47,6 +49,8 @@ EndsAs rows steps old new (BadInput role e) = ⊥
 EndsAs rows steps old new NoMemory = Keeps old new
 EndsAs rows steps old new (CannotRead role) = Keeps old new
 EndsAs rows steps old new CannotWrite = AppendsPrefix old new (output rows steps)
+EndsAs rows steps old new Locked = ⊥
+EndsAs rows steps old new CannotKeep = ⊥
 
 -- what was read is a simulation, and it ends so
 abbrev pub Plays : Option (List ℕ) → Option (List ℕ) → Option (List ℕ) → Ending → Type 0
@@ -63,6 +67,8 @@ Says known old new (BadInput role e) =
 Says known old new NoMemory = Keeps old new
 Says known old new (CannotRead role) = (role ≡ Input) × Keeps old new
 Says known old new CannotWrite = Plays known old new CannotWrite
+Says known old new Locked = ⊥
+Says known old new CannotKeep = ⊥
 
 -- a run ends so: the ending is as it says, and a simulation ends as one
 pub record Ends (known old new : Option (List ℕ)) (ending : Ending) : Type 0 where

@@ -13,9 +13,11 @@ use Rattle.td_explain.specs.declared.packing.Packing.{Packing}
 use Rattle.td_indices.specs.Fields.{relation_field_name}
 use Rattle.td_indices.specs.declared.archive_fault.RelationField.{RelationField}
 use Rattle.td_report.specs.Report.{all_shown}
-use Rattle.td_words.specs.Asked.{check_words, plan_words, run_words, track_words, waves_words}
+use Rattle.td_words.specs.Asked.{check_words, desk_words, plan_words, run_words, track_words}
+use Rattle.td_words.specs.Asked.{waves_words}
 use Rattle.td_words.specs.CheckWords.{CheckWords}
 use Rattle.td_words.specs.CommandLine.{RunWords, TrackWords, WavesWords}
+use Rattle.td_words.specs.DeskWords.{DeskWords}
 use Rattle.td_words.specs.PlanWords.{PlanWords}
 use Rattle.td_words.specs.declared.request.Request.{Request}
 use Rattle.td_words.specs.declared.request.Request.TheVariants as asked
@@ -31,11 +33,12 @@ use Rattle.td_inputs.specs.declared.role.Role.TheVariants.{Tracker, Outcomes, Jo
 use Rattle.td_tool.specs.declared.cause.Cause.{Cause}
 use Rattle.td_tool.specs.declared.input_fault.InputFault.{InputFault}
 use Rattle.td_tool.specs.declared.input_fault.InputFault.TheVariants.{TooLong, NotText, Simulation}
-use Rattle.td_tool.specs.declared.input_fault.InputFault.TheVariants.{BadOutcome, Form}
+use Rattle.td_tool.specs.declared.input_fault.InputFault.TheVariants.{BadOutcome, DeskFile, Form}
 use Rattle.td_tool.specs.declared.ending.Ended.{Ended}
 use Rattle.td_tool.specs.declared.ending.Ending.{Ending}
 use Rattle.td_tool.specs.declared.ending.Ending.TheVariants.{Done, Refused, BadInput, NoMemory}
 use Rattle.td_tool.specs.declared.ending.Ending.TheVariants.{CannotRead, CannotWrite}
+use Rattle.td_tool.specs.declared.ending.Ending.TheVariants.{Locked, CannotKeep}
 use Rattle.td_tool.specs.declared.explaining.Unexplained.{Unexplained}
 use Rattle.td_tool.specs.declared.explaining.Unexplained.TheVariants as unexplained
 
@@ -111,6 +114,17 @@ run_paths w Tracker = w.tracker
 run_paths w Outcomes = w.outcomes
 run_paths w Journal = w.journal
 
+-- the paths of a desk's files, by role: the journal is the desk's own file
+abbrev pub desk_paths : DeskWords → Role → Option (List ℕ)
+desk_paths w Input = None
+desk_paths w Archs = Some w.archs
+desk_paths w Packages = Some w.packages
+desk_paths w Sources = Some w.sources
+desk_paths w State = w.state
+desk_paths w Tracker = w.tracker
+desk_paths w Outcomes = None
+desk_paths w Journal = Some w.journal
+
 -- what is known of the text of a role: the path of its file, if it has one, and its bytes, if they
 -- are known
 pub record Given : Type 0 where
@@ -147,6 +161,7 @@ paths_of (asked.Track r) role = track_paths (track_words r) role
 paths_of (asked.Waves r) role = waves_paths (waves_words r) role
 paths_of (asked.Plan r) role = plan_paths (plan_words r) role
 paths_of (asked.Run r) role = run_paths (run_words r) role
+paths_of (asked.Desk r) role = desk_paths (desk_words r) role
 
 -- the texts of a request, by role, if they are known: a simulation has only standard input, and no
 -- place of a script is explained
@@ -158,6 +173,7 @@ known_of_request (asked.Track r) known bytes = known_at bytes (track_paths (trac
 known_of_request (asked.Waves r) known bytes = known_at bytes (waves_paths (waves_words r))
 known_of_request (asked.Plan r) known bytes = known_at bytes (plan_paths (plan_words r))
 known_of_request (asked.Run r) known bytes = known_at bytes (run_paths (run_words r))
+known_of_request (asked.Desk r) known bytes = known_at bytes (desk_paths (desk_words r))
 
 -- ---- 2. the explanation
 
@@ -222,6 +238,7 @@ ExplainsFault given role NotText line = ExplainsNoText given role line
 ExplainsFault given role (Simulation e) line = ExplainsPlace given role (Simulation e) line
 ExplainsFault given role (BadOutcome n) line = ExplainsPlace given role (BadOutcome n) line
 ExplainsFault given role (Form e) line = ExplainsPlace given role (Form e) line
+ExplainsFault given role (DeskFile e) line = ExplainsPlace given role (DeskFile e) line
 
 -- a line explains the ending: that of a refused text by its fault; that of a file that isn't read
 -- by its path and some cause, since no clause knows the disk; that of lines that were answered is
@@ -234,6 +251,8 @@ Explains known notes NoMemory line = line ≡ []
 Explains known notes (CannotRead role) line =
     (cause : Option Cause) × (line ≡ unread_line role (known role).path cause)
 Explains known notes CannotWrite line = line ≡ []
+Explains known notes Locked line = line ≡ []
+Explains known notes CannotKeep line = line ≡ []
 
 -- a line explains a fault in one text, which is the known one
 abbrev pub ExplainsFile : Option (List ℕ) → Role → InputFault → List ℕ → Type 0
@@ -288,6 +307,8 @@ HasNoneOf can_be (CannotRead role) ended request =
     IfSome (paths_of request role) (λ path. can_be path file_limit None ≡ true)
 HasNoneOf can_be NoMemory ended request = Unit {0}
 HasNoneOf can_be CannotWrite ended request = Unit {0}
+HasNoneOf can_be Locked ended request = Unit {0}
+HasNoneOf can_be CannotKeep ended request = Unit {0}
 
 abbrev pub HasNone : Causes → Ended → Request → Type 0
 HasNone can_be ended request = HasNoneOf can_be ended.ending ended request

@@ -10,6 +10,7 @@ use Rattle.td_words.specs.CheckWords.{check_said}
 use Rattle.td_words.specs.CommandLine.{AskFor, HasFiles, HasRun, HasTrack, HasTracker, HasWaves}
 use Rattle.td_words.specs.CommandLine.{RunWords, TrackWords, WavesWords, options_of}
 use Rattle.td_words.specs.Folder.{folder_in, in_folder, path_if, tracker_said}
+use Rattle.td_words.specs.DeskWords.{DeskWords, HasDesk}
 use Rattle.td_words.specs.PlanWords.{HasMessage, HasPlan, PlanWords, line_words_said}
 use Rattle.td_tool.specs.Limits.{file_limit}
 use Rattle.td_tool.specs.declared.cause.Cause.{Cause}
@@ -91,6 +92,12 @@ abbrev pub AsksForRun : Causes → List (List ℕ) → RunWords → Type 0
 AsksForRun can_be words w =
     AskFor (codes "run") words
     × Whatever can_be words (λ present. HasRun present (options_of words) w)
+
+-- the words ask for this desk, whatever the folder may be found to have
+abbrev pub AsksForDesk : Causes → List (List ℕ) → DeskWords → Type 0
+AsksForDesk can_be words w =
+    AskFor (codes "desk") words
+    × Whatever can_be words (λ present. HasDesk present (options_of words) w)
 
 -- the words ask for just this, by what the folder may be found to have
 pub record AskFound (can_be : Causes) (words : List (List ℕ)) (asked : RequestWords) : Type 0 where

@@ -1,6 +1,7 @@
 -- What the contracts of this crate cite: a file a thing.
 pub mod Limits
 pub mod FolderFiles
+pub mod DeskFaults
 pub mod Ending
 pub mod Places
 pub mod Wanted
@@ -17,5 +18,7 @@ pub mod UnreadFiles
 pub mod TrackInside
 pub mod Runs
 pub mod RunInside
+pub mod Desks
+pub mod DeskInside
 pub mod Streams
 pub mod Program

@@ -19,6 +19,7 @@ use Rattle.td_simulate.specs.declared.fault.SimulationFault.{SimulationFault}
 use Rattle.td_simulate.specs.declared.fault.SimulationFault.TheVariants as simulation
 use Rattle.td_inputs.specs.declared.form_fault.FormFault.{FormFault}
 use Rattle.td_inputs.specs.declared.form_fault.FormFault.TheVariants as form
+use Rattle.td_tool.specs.DeskFaults.{place_in_desk_file}
 use Rattle.td_tool.specs.declared.input_fault.InputFault.{InputFault}
 use Rattle.td_tool.specs.declared.input_fault.InputFault.TheVariants as refused
 
@@ -94,6 +95,7 @@ place_of refused.NotText = Whole
 place_of (refused.Simulation e) = place_in_simulation e
 place_of (refused.BadOutcome n) = Line n
 place_of (refused.Form e) = place_in_form e
+place_of (refused.DeskFile e) = place_in_desk_file e
 
 -- the stanza and the field with a relation that can't be read, if that is wrong with an index
 abbrev pub relation_in_index : ArchiveFault → Option (ℕ × RelationField)
@@ -120,3 +122,4 @@ relation_of refused.NotText = None
 relation_of (refused.Simulation e) = None
 relation_of (refused.BadOutcome n) = None
 relation_of (refused.Form e) = relation_in_form e
+relation_of (refused.DeskFile e) = None

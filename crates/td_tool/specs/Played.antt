@@ -18,6 +18,7 @@ use Rattle.td_inputs.specs.declared.role.Role.TheVariants.{Input}
 use Rattle.td_tool.specs.declared.ending.Ending.{Ending}
 use Rattle.td_tool.specs.declared.ending.Ending.TheVariants.{Done, Refused, BadInput, NoMemory}
 use Rattle.td_tool.specs.declared.ending.Ending.TheVariants.{CannotRead, CannotWrite}
+use Rattle.td_tool.specs.declared.ending.Ending.TheVariants.{Locked, CannotKeep}
 use Rattle.td_tool.specs.Ending.{ending_of_text, ending_of_simulation}
 use Rattle.td_tool.specs.Ends.{EndsAs}
 
@@ -31,6 +32,8 @@ TellsSo told old new (BadInput role e) = ⊥
 TellsSo told old new NoMemory = ⊥
 TellsSo told old new (CannotRead role) = ⊥
 TellsSo told old new CannotWrite = AppendsPrefix old new (string_bytes told.text)
+TellsSo told old new Locked = ⊥
+TellsSo told old new CannotKeep = ⊥
 
 -- there is no simulation, for this, and nothing is written
 pub record IsUntold (fault : SimulationFault) (old new : Option (List ℕ))
@@ -54,6 +57,7 @@ IsNoSimulation text (Simulation fault.NoMemory) = ⊥
 IsNoSimulation text (Simulation e) = FaultOf text e
 IsNoSimulation text (refused.BadOutcome n) = ⊥
 IsNoSimulation text (refused.Form e) = ⊥
+IsNoSimulation text (refused.DeskFile e) = ⊥
 
 -- what an ending says of a text: it was read, so no read has failed
 abbrev pub TextSays : List ℕ → Option (List ℕ) → Option (List ℕ) → Ending → Type 0
@@ -63,6 +67,8 @@ TextSays text old new (BadInput role e) = (role ≡ Input) × IsNoSimulation tex
 TextSays text old new NoMemory = Keeps old new
 TextSays text old new (CannotRead role) = ⊥
 TextSays text old new CannotWrite = PlaysText text old new CannotWrite
+TextSays text old new Locked = ⊥
+TextSays text old new CannotKeep = ⊥
 
 -- a text ends the run so: the ending is as it says, and a simulation ends as one
 pub record TextEnds (text : List ℕ) (old new : Option (List ℕ)) (ending : Ending) : Type 0 where

@@ -10,13 +10,13 @@ use Rattle.td_bytes.specs.Pieces.{AppendsPrefix}
 use Rattle.td_bytes.specs.declared.text.TextFault.{TextFault}
 use Rattle.td_words.specs.declared.request.Request.{Request}
 use Rattle.td_words.specs.declared.request.Request.TheVariants.{Simulate, Check, Track, Waves}
-use Rattle.td_words.specs.declared.request.Request.TheVariants.{Plan, Run}
+use Rattle.td_words.specs.declared.request.Request.TheVariants.{Plan, Run, Desk}
 use Rattle.td_words.specs.declared.request.WordsFault.{WordsFault}
 use Rattle.td_words.specs.declared.request.WordsFault.TheVariants as words_fault
 use Rattle.td_plan.specs.Lines.{Words}
 use Rattle.td_report.specs.Transition.{IsReportOf}
-use Rattle.td_words.specs.Asked.{check_words, plan_words, request_words, run_words, track_words}
-use Rattle.td_words.specs.Asked.{waves_words}
+use Rattle.td_words.specs.Asked.{check_words, desk_words, plan_words, request_words, run_words}
+use Rattle.td_words.specs.Asked.{track_words, waves_words}
 use Rattle.td_words.specs.CommandLine.{TrackWords, WavesWords, is_explained, options_of}
 use Rattle.td_words.specs.PlanWords.{PlanWords}
 use Rattle.td_tool.specs.FolderFiles.{AskFound, Causes, SaysWhich}
@@ -25,6 +25,7 @@ use Rattle.td_tool.specs.declared.ending.Ending.TheVariants.{NoMemory}
 use Rattle.td_tool.specs.Ending.{line_of}
 use Rattle.td_tool.specs.Ends.{Ends}
 use Rattle.td_tool.specs.CheckEnds.{CheckEnds}
+use Rattle.td_tool.specs.Desks.{DeskFiles, EndsDesk, desk_files_asked}
 use Rattle.td_tool.specs.Tracks.{EndsSo, IsPlanWith, TrackFiles, track_files, waves_says}
 use Rattle.td_tool.specs.Runs.{AreNotes, EndsRun, run_files_asked}
 use Rattle.td_tool.specs.Explained.{known_of_request}
@@ -113,19 +114,23 @@ words_asked w = record { message = w.message; suite = w.suite }
 
 -- what was asked for ends so
 abbrev pub EndsFor : Request → Option (List ℕ) → Option (List ℕ) → (List ℕ → Option (List ℕ))
-    → (List ℕ → TextFault → Bool) → Option (List ℕ) → Option (List ℕ) → Ending → Type 0
-EndsFor Simulate known left bytes can_fail old new ending = Ends known old new ending
-EndsFor (Check r) known left bytes can_fail old new ending =
+    → (List ℕ → TextFault → Bool) → DeskFiles → Option (List ℕ) → Option (List ℕ) → Ending
+    → Type 0
+EndsFor Simulate known left bytes can_fail desks old new ending = Ends known old new ending
+EndsFor (Check r) known left bytes can_fail desks old new ending =
     CheckEnds bytes can_fail (check_words r) old new ending
-EndsFor (Track r) known left bytes can_fail old new ending =
+EndsFor (Track r) known left bytes can_fail desks old new ending =
     EndsSo (IsReportOf r.shown) (files_asked bytes can_fail (track_words r)) old new ending
-EndsFor (Waves r) known left bytes can_fail old new ending =
+EndsFor (Waves r) known left bytes can_fail desks old new ending =
     EndsSo (waves_says r.form) (waves_files bytes can_fail (waves_words r)) old new ending
-EndsFor (Plan r) known left bytes can_fail old new ending =
+EndsFor (Plan r) known left bytes can_fail desks old new ending =
     EndsSo (IsPlanWith (words_asked (plan_words r))) (plan_files bytes can_fail (plan_words r)) old
     new ending
-EndsFor (Run r) known left bytes can_fail old new ending =
+EndsFor (Run r) known left bytes can_fail desks old new ending =
     EndsRun (run_files_asked bytes can_fail (run_words r)) (string_bytes r.suite) known left old
+    new ending
+EndsFor (Desk r) known left bytes can_fail desks old new ending =
+    EndsDesk (desk_files_asked bytes can_fail (desk_words r)) desks (desk_words r) known left old
     new ending
 
 -- what may be noted of the lines of a request's script: only a run without builders has notes
@@ -136,16 +141,18 @@ NotesFor (Check files) known bytes can_fail = NoNotes
 NotesFor (Track r) known bytes can_fail = NoNotes
 NotesFor (Waves r) known bytes can_fail = NoNotes
 NotesFor (Plan r) known bytes can_fail = NoNotes
+NotesFor (Desk r) known bytes can_fail = NoNotes
 NotesFor (Run r) known bytes can_fail =
     AreNotes (run_files_asked bytes can_fail (run_words r)) (string_bytes r.suite) known
 
 -- the request ran, and is explained or not. It tells of a failed read or write of a stream only if
 -- that may fail
 abbrev pub RanFor : Request → Bool → Option (List ℕ) → Option (List ℕ)
-    → (List ℕ → Option (List ℕ)) → (List ℕ → TextFault → Bool) → Bool → Bool → Option (List ℕ)
-    → Option (List ℕ) → Option (List ℕ) → Option (List ℕ) → ℕ → Type 0
-RanFor request explained known left bytes can_fail reads writes old new said_before said status =
-    Ran (DueTo reads writes (EndsFor request known left bytes can_fail old new))
+    → (List ℕ → Option (List ℕ)) → (List ℕ → TextFault → Bool) → DeskFiles → Bool → Bool
+    → Option (List ℕ) → Option (List ℕ) → Option (List ℕ) → Option (List ℕ) → ℕ → Type 0
+RanFor request explained known left bytes can_fail desks reads writes old new said_before said
+    status =
+    Ran (DueTo reads writes (EndsFor request known left bytes can_fail desks old new))
     (NotesFor request known bytes can_fail) explained (known_of_request request known bytes)
     said_before said status
 
@@ -157,9 +164,10 @@ HasNoBuilders (Track r) = Unit {0}
 HasNoBuilders (Waves r) = Unit {0}
 HasNoBuilders (Plan r) = Unit {0}
 HasNoBuilders (Run r) = r.builders ≡ 0
+HasNoBuilders (Desk r) = Unit {0}
 
--- standard input is read only for a simulation and for a run: all else leaves it as it was. When a
--- run leaves it, `EndsRun` says
+-- standard input is read only for a simulation, for a run and for a desk: all else leaves it as it
+-- was. When these leave it, `EndsRun` and `EndsDesk` say
 abbrev pub LeavesInput : Request → Option (List ℕ) → Option (List ℕ) → Type 0
 LeavesInput Simulate known left = Unit {0}
 LeavesInput (Check r) known left = Keeps known left
@@ -167,15 +175,17 @@ LeavesInput (Track r) known left = Keeps known left
 LeavesInput (Waves r) known left = Keeps known left
 LeavesInput (Plan r) known left = Keeps known left
 LeavesInput (Run r) known left = Unit {0}
+LeavesInput (Desk r) known left = Unit {0}
 
 -- the words ask for a request, by what may be found in the folder that they give, and it ran; or
 -- the program says why not, reads and writes nothing
 abbrev pub OnlyIfAsked : Causes → List (List ℕ) → Option (List ℕ) → Option (List ℕ)
-    → (List ℕ → Option (List ℕ)) → (List ℕ → TextFault → Bool) → Bool → Bool → Option (List ℕ)
-    → Option (List ℕ) → Option (List ℕ) → Option (List ℕ) → ℕ → Type 0
-OnlyIfAsked can_be words known left bytes can_fail reads writes old new said_before said status =
+    → (List ℕ → Option (List ℕ)) → (List ℕ → TextFault → Bool) → DeskFiles → Bool → Bool
+    → Option (List ℕ) → Option (List ℕ) → Option (List ℕ) → Option (List ℕ) → ℕ → Type 0
+OnlyIfAsked can_be words known left bytes can_fail desks reads writes old new said_before said
+    status =
     ((request : Request) × AskFound can_be words (request_words request)
     × LeavesInput request known left
-    × RanFor request (is_explained (options_of words)) known left bytes can_fail reads writes old
-    new said_before said status)
+    × RanFor request (is_explained (options_of words)) known left bytes can_fail desks reads writes
+    old new said_before said status)
     ⊎ (TellsWhy can_be words said_before said status × Keeps known left × Keeps old new)

@@ -24,6 +24,7 @@ use Rattle.td_tool.specs.declared.input_fault.InputFault.TheVariants.{BadOutcome
 use Rattle.td_tool.specs.declared.ending.Ending.{Ending}
 use Rattle.td_tool.specs.declared.ending.Ending.TheVariants.{Done, Refused, BadInput, NoMemory}
 use Rattle.td_tool.specs.declared.ending.Ending.TheVariants.{CannotRead, CannotWrite}
+use Rattle.td_tool.specs.declared.ending.Ending.TheVariants.{Locked, CannotKeep}
 use Rattle.td_tool.specs.Ending.{ending_of_form, ending_of_stop}
 use Rattle.td_tool.specs.Checks.{AreTexts, Files, HasFailed, files_of}
 use Rattle.td_tool.specs.Tracks.{IsKnownIfGiven, IsKnownText, IsTextIfGiven, IsUnreadBy, MayFail}
@@ -192,6 +193,8 @@ MayEnd tracker (BadInput role e) =
 MayEnd tracker NoMemory = Unit {0}
 MayEnd tracker (CannotRead role) = Unit {0}
 MayEnd tracker CannotWrite = Unit {0}
+MayEnd tracker Locked = ⊥
+MayEnd tracker CannotKeep = ⊥
 
 -- if the reader is known to have a script, and the texts are readable, the run may end so
 abbrev pub OnlyEnds : script.Texts → Option (List ℕ) → Ending → Type 0

@@ -53,7 +53,8 @@ saying_of (Ordered order) = ordered_of order
 saying_of (Planned words) = IsPlanWith (seen_words words)
 saying_of (Detailed cut) = details_says cut
 
--- what is asked of a tracker where affected sources are listed by steps or by levels, with what each
+-- what is asked of a tracker where affected sources are listed by steps or by levels, with what
+-- each
 -- builds on or without
 abbrev pub asked_with : (steps why : Bool) → Asked
 asked_with true why = Ordered (Steps why)

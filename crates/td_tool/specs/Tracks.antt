@@ -27,6 +27,7 @@ use Rattle.td_tool.specs.declared.early_texts.CutOff.{CutOff}
 use Rattle.td_tool.specs.declared.ending.Ending.{Ending}
 use Rattle.td_tool.specs.declared.ending.Ending.TheVariants.{Done, Refused, BadInput, NoMemory}
 use Rattle.td_tool.specs.declared.ending.Ending.TheVariants.{CannotRead, CannotWrite}
+use Rattle.td_tool.specs.declared.ending.Ending.TheVariants.{Locked, CannotKeep}
 use Rattle.td_tool.specs.Ending.{ending_of_file, ending_of_form}
 use Rattle.td_tool.specs.Counted.{IsArchiveOf, cut_in, tracked_text}
 use Rattle.td_tool.specs.Checks.{AreTexts, FaultFits, Files, HasFailed, IsFileText, IsTextOf}
@@ -245,6 +246,8 @@ EndsTold Says x old new NoMemory = Keeps old new
 EndsTold Says x old new (CannotRead role) = Keeps old new
 EndsTold Says x old new CannotWrite =
     (text : List ℕ) × TextsSayIt Says x text × AppendsPrefix old new text
+EndsTold Says x old new Locked = ⊥
+EndsTold Says x old new CannotKeep = ⊥
 
 -- a run over these files ends so: the ending is as it says, and what readable texts say, by what
 -- they are, is written

@@ -33,9 +33,10 @@ use Rattle.td_explain.specs.ArchFlaw.{flaw_at}
 use Rattle.td_explain.specs.Stray.{stray_at}
 use Rattle.td_tool.specs.declared.cause.Cause.{Cause}
 use Rattle.td_tool.specs.declared.cause.Cause.TheVariants as cause
+use Rattle.td_tool.specs.DeskFaults.{wanted_desk_file}
 use Rattle.td_tool.specs.declared.input_fault.InputFault.{InputFault}
 use Rattle.td_tool.specs.declared.input_fault.InputFault.TheVariants.{TooLong, NotText, Simulation}
-use Rattle.td_tool.specs.declared.input_fault.InputFault.TheVariants.{BadOutcome, Form}
+use Rattle.td_tool.specs.declared.input_fault.InputFault.TheVariants.{BadOutcome, DeskFile, Form}
 
 -- what is wanted of the rows of a state file, or of the opening rows
 abbrev pub wanted_state : StateFault → List ℕ
@@ -146,7 +147,8 @@ wanted_tracker tracker.NoMemory text = []
 
 -- what is wanted of a journal
 abbrev pub wanted_journal : ReadError → List ℕ
-wanted_journal journal.BadHeader = codes "a journal's header line with its newline, as transdesk journal 2"
+wanted_journal journal.BadHeader =
+    codes "a journal's header line with its newline, as transdesk journal 2"
 wanted_journal (journal.BadLine n) = codes "the next entry, as docs/FORMATS.md has journals"
 wanted_journal (journal.Unlawful n) =
     codes "an entry that applies on the rows, or an undone command"
@@ -168,6 +170,7 @@ wanted_input NotText text = codes "a text in UTF-8"
 wanted_input (Simulation e) text = wanted_simulation e
 wanted_input (BadOutcome n) text = codes "how a build ends, as KEY OUTCOME"
 wanted_input (Form e) text = wanted_form e text
+wanted_input (DeskFile e) text = wanted_desk_file e
 
 -- what is wanted of a file that is packed
 abbrev pub unpacked : List ℕ

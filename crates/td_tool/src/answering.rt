@@ -10,13 +10,16 @@ ghost use Rattle.td_report.specs.Transition.{IsReportOf};
 ghost use Rattle.td_words.specs.CheckWords.{AskForCheck, CheckWords};
 ghost use Rattle.td_words.specs.CommandLine.{AskFor, RunWords, TrackWords};
 ghost use Rattle.td_words.specs.CommandLine.{WavesWords, is_explained, options_of};
+ghost use Rattle.td_words.specs.DeskWords.{DeskWords};
 ghost use Rattle.td_words.specs.PlanWords.{PlanWords};
-ghost use Rattle.td_tool.specs.FolderFiles.{AsksForPlan, AsksForRun, AsksForTrack, AsksForWaves};
+ghost use Rattle.td_tool.specs.Desks.{EndsDesk, desk_files_asked};
+ghost use Rattle.td_tool.specs.FolderFiles.{AsksForDesk, AsksForPlan, AsksForRun, AsksForTrack};
+ghost use Rattle.td_tool.specs.FolderFiles.{AsksForWaves};
 ghost use Rattle.td_tool.specs.Ends.{Ends};
 ghost use Rattle.td_tool.specs.CheckEnds.{CheckEnds};
-ghost use Rattle.td_tool.specs.Explained.{IsKept, IsTextKept, check_paths, known_at};
-ghost use Rattle.td_tool.specs.Explained.{known_input, known_of_request, plan_paths, run_paths};
-ghost use Rattle.td_tool.specs.Explained.{track_paths, waves_paths};
+ghost use Rattle.td_tool.specs.Explained.{IsKept, IsTextKept, check_paths, desk_paths};
+ghost use Rattle.td_tool.specs.Explained.{known_at, known_input, known_of_request, plan_paths};
+ghost use Rattle.td_tool.specs.Explained.{run_paths, track_paths, waves_paths};
 ghost use Rattle.td_tool.specs.Limits.{input_limit};
 ghost use Rattle.td_tool.specs.Ran.{NoNotes, Ran};
 ghost use Rattle.td_tool.specs.Program.{EndsFor, HasNoBuilders, IsTold, LeavesInput, NotesFor};
@@ -30,9 +33,11 @@ ghost use Rattle.td_tool.specs.Streams.{DueTo, IsDue};
 ghost use Rattle.td_tool.specs.Tracks.{EndsSo, IsPlanWith, waves_says};
 
 use crate::checks::check_asked;
+use crate::desks::Desks;
 use crate::ending::{Ended, Ending};
 use crate::explaining::finish;
 use crate::folder_files::read_call;
+use crate::keeping::keep;
 use crate::noting::run_explained;
 use crate::planning::plan;
 use crate::running::{run_alone, run_with_builders};
@@ -122,13 +127,14 @@ pub fn crew_of(request: &Request) -> Option<&RunRequest>
         | Request::Check(_)
         | Request::Track(_)
         | Request::Waves(_)
-        | Request::Plan(_) => None,
+        | Request::Plan(_)
+        | Request::Desk(_) => None,
     }
 }
 
 // Does what was asked for without builders, and says what there is to say of a script's lines if
 // that is to be explained.
-fn do_alone<T: Texts + Sync, R: Reader, W: Writer>(
+fn do_alone<T: Texts + Desks + Sync, R: Reader, W: Writer>(
     rt: &(impl Threads + Sync),
     alloc: Global,
     explained: bool,
@@ -140,7 +146,7 @@ fn do_alone<T: Texts + Sync, R: Reader, W: Writer>(
     requires { HasNoBuilders request.now }
     ensures ends { EndsFor request.now
         (R.remaining reader.old) (R.remaining reader.new)
-        (T.bytes texts.now) (T.can_fail texts.now)
+        (T.bytes texts.now) (T.can_fail texts.now) (T.desks texts.now)
         (W.contents output.old) (W.contents output.new) result.ending }
     ensures due { IsDue (R.can_fail reader.old) (W.can_fail output.old) result.ending }
     ensures kept { IsKept
@@ -178,12 +184,13 @@ fn do_alone<T: Texts + Sync, R: Reader, W: Writer>(
         Request::Run(request) => {
             run_explained(rt, alloc, explained, texts, request, reader, output)
         }
+        Request::Desk(request) => keep(rt, alloc, texts, request, reader, output).alone(),
     }
 }
 
 /// Does what a call asks for, if that is no run with builders (`crew_of`), and answers the
 /// program's status. It waits for nobody. What can't be written to `faults` is left.
-pub fn answer_alone<T: Texts + Sync, R: Reader, W: Writer, E: Writer>(
+pub fn answer_alone<T: Texts + Desks + Sync, R: Reader, W: Writer, E: Writer>(
     rt: &(impl Threads + Sync),
     alloc: Global,
     call: &Call,
@@ -195,7 +202,7 @@ pub fn answer_alone<T: Texts + Sync, R: Reader, W: Writer, E: Writer>(
     requires { HasNoBuilders call.now.request }
     ensures request { RanFor call.now.request call.now.explained
         (R.remaining reader.old) (R.remaining reader.new)
-        (T.bytes texts.now) (T.can_fail texts.now)
+        (T.bytes texts.now) (T.can_fail texts.now) (T.desks texts.now)
         (R.can_fail reader.old) (W.can_fail output.old)
         (W.contents output.old) (W.contents output.new)
         (E.contents faults.old) (E.contents faults.new) result }
@@ -215,7 +222,7 @@ pub fn answer_alone<T: Texts + Sync, R: Reader, W: Writer, E: Writer>(
 }
 
 // Does the run with builders that was asked for.
-fn do_with_builders<T: Texts + Sync, R: Reader, W: Writer>(
+fn do_with_builders<T: Texts + Desks + Sync, R: Reader, W: Writer>(
     rt: &(impl Threads + Wait + Sync),
     alloc: Global,
     request: &Request,
@@ -228,7 +235,7 @@ fn do_with_builders<T: Texts + Sync, R: Reader, W: Writer>(
     requires builders { run.now.builders ≢ 0 }
     ensures ends { EndsFor request.now
         (R.remaining reader.old) (R.remaining reader.new)
-        (T.bytes texts.now) (T.can_fail texts.now)
+        (T.bytes texts.now) (T.can_fail texts.now) (T.desks texts.now)
         (W.contents output.old) (W.contents output.new) result.ending }
     ensures due { IsDue (R.can_fail reader.old) (W.can_fail output.old) result.ending }
     ensures kept { IsKept
@@ -243,7 +250,7 @@ fn do_with_builders<T: Texts + Sync, R: Reader, W: Writer>(
 }
 
 // Does the run with builders that was asked for, and answers the program's status.
-fn answer_with_builders<T: Texts + Sync, R: Reader, W: Writer, E: Writer>(
+fn answer_with_builders<T: Texts + Desks + Sync, R: Reader, W: Writer, E: Writer>(
     rt: &(impl Threads + Wait + Sync),
     alloc: Global,
     call: &Call,
@@ -257,7 +264,7 @@ fn answer_with_builders<T: Texts + Sync, R: Reader, W: Writer, E: Writer>(
     requires builders { run.now.builders ≢ 0 }
     ensures request { RanFor call.now.request call.now.explained
         (R.remaining reader.old) (R.remaining reader.new)
-        (T.bytes texts.now) (T.can_fail texts.now)
+        (T.bytes texts.now) (T.can_fail texts.now) (T.desks texts.now)
         (R.can_fail reader.old) (W.can_fail output.old)
         (W.contents output.old) (W.contents output.new)
         (E.contents faults.old) (E.contents faults.new) result }
@@ -269,7 +276,7 @@ fn answer_with_builders<T: Texts + Sync, R: Reader, W: Writer, E: Writer>(
 }
 
 // Does what the words were read as.
-fn act<T: Texts + Sync, R: Reader, W: Writer, E: Writer>(
+fn act<T: Texts + Desks + Sync, R: Reader, W: Writer, E: Writer>(
     rt: &(impl Threads + Wait + Sync),
     alloc: Global,
     asked: Result<Call, WordsFault>,
@@ -280,7 +287,7 @@ fn act<T: Texts + Sync, R: Reader, W: Writer, E: Writer>(
 ) -> u8
     ensures request { IfOk asked (λ call. RanFor call.request call.explained
         (R.remaining reader.old) (R.remaining reader.new)
-        (T.bytes texts.now) (T.can_fail texts.now)
+        (T.bytes texts.now) (T.can_fail texts.now) (T.desks texts.now)
         (R.can_fail reader.old) (W.can_fail output.old)
         (W.contents output.old) (W.contents output.new)
         (E.contents faults.old) (E.contents faults.new) result) }
@@ -301,7 +308,7 @@ fn act<T: Texts + Sync, R: Reader, W: Writer, E: Writer>(
 }
 
 // Does what the words ask for.
-fn answer<T: Texts + Sync, R: Reader, W: Writer, E: Writer>(
+fn answer<T: Texts + Desks + Sync, R: Reader, W: Writer, E: Writer>(
     rt: &(impl Threads + Wait + Sync),
     alloc: Global,
     words: &[String],
@@ -357,9 +364,17 @@ fn answer<T: Texts + Sync, R: Reader, W: Writer, E: Writer>(
         (is_explained (options_of (map string_bytes words.now)))
         (known_at (T.bytes texts.now) (run_paths w))
         (E.contents faults.old) (E.contents faults.new) result }
+    ensures desk { (w : DeskWords) → AsksForDesk (T.can_be texts.now) (map string_bytes words.now) w
+        → Ran (DueTo (R.can_fail reader.old) (W.can_fail output.old)
+        (EndsDesk (desk_files_asked (T.bytes texts.now) (T.can_fail texts.now) w)
+        (T.desks texts.now) w (R.remaining reader.old) (R.remaining reader.new)
+        (W.contents output.old) (W.contents output.new)))
+        NoNotes (is_explained (options_of (map string_bytes words.now)))
+        (known_at (T.bytes texts.now) (desk_paths w))
+        (E.contents faults.old) (E.contents faults.new) result }
     ensures others { OnlyIfAsked (T.can_be texts.now) (map string_bytes words.now)
         (R.remaining reader.old) (R.remaining reader.new)
-        (T.bytes texts.now) (T.can_fail texts.now)
+        (T.bytes texts.now) (T.can_fail texts.now) (T.desks texts.now)
         (R.can_fail reader.old) (W.can_fail output.old)
         (W.contents output.old) (W.contents output.new)
         (E.contents faults.old) (E.contents faults.new) result }
@@ -377,7 +392,7 @@ fn answer<T: Texts + Sync, R: Reader, W: Writer, E: Writer>(
 
 /// Does what the words ask for, and answers the program's status. The first word is the program's
 /// own name. What can't be written to `faults` is left.
-pub fn tool<T: Texts + Sync, R: Reader, W: Writer, E: Writer>(
+pub fn tool<T: Texts + Desks + Sync, R: Reader, W: Writer, E: Writer>(
     rt: &(impl Threads + Wait + Sync),
     alloc: Global,
     words: io::Result<Vec<String>>,
@@ -435,12 +450,21 @@ pub fn tool<T: Texts + Sync, R: Reader, W: Writer, E: Writer>(
         (AreNotes (run_files_asked (T.bytes texts.now) (T.can_fail texts.now) w) w.suite
         (R.remaining reader.old)) (are_explained words) (known_at (T.bytes texts.now) (run_paths w))
         (E.contents faults.old) (E.contents faults.new) result }
+    // What asks for a desk that lasts is answered by it.
+    ensures desk { (w : DeskWords) → IsOkAnd words (λ given.
+        AsksForDesk (T.can_be texts.now) (map string_bytes given.items) w)
+        → Ran (DueTo (R.can_fail reader.old) (W.can_fail output.old)
+        (EndsDesk (desk_files_asked (T.bytes texts.now) (T.can_fail texts.now) w)
+        (T.desks texts.now) w (R.remaining reader.old) (R.remaining reader.new)
+        (W.contents output.old) (W.contents output.new)))
+        NoNotes (are_explained words) (known_at (T.bytes texts.now) (desk_paths w))
+        (E.contents faults.old) (E.contents faults.new) result }
     // Other words are bad, unless memory runs out, and nothing is written. Standard input is read
-    // only for a simulation and for a run.
+    // only for a simulation, for a run and for a desk.
     ensures others { IfOk words (λ given.
         OnlyIfAsked (T.can_be texts.now) (map string_bytes given.items)
         (R.remaining reader.old) (R.remaining reader.new)
-        (T.bytes texts.now) (T.can_fail texts.now)
+        (T.bytes texts.now) (T.can_fail texts.now) (T.desks texts.now)
         (R.can_fail reader.old) (W.can_fail output.old)
         (W.contents output.old) (W.contents output.new)
         (E.contents faults.old) (E.contents faults.new) result) }

@@ -29,6 +29,10 @@ pub enum Ending {
     NoMemory,
     CannotRead(Role),
     CannotWrite,
+    /// Another desk has the desk's file.
+    Locked,
+    /// The desk's file can't be written.
+    CannotKeep,
 }
 
 /// How a run ended, with the text of standard input if it was kept, and what is said of the lines
@@ -132,7 +136,7 @@ impl Ending {
             Ending::Refused => 1,
             Ending::BadInput(_, _) => 2,
             Ending::NoMemory => 4,
-            Ending::CannotRead(_) | Ending::CannotWrite => 5,
+            Ending::CannotRead(_) | Ending::CannotWrite | Ending::Locked | Ending::CannotKeep => 5,
         }
     }
 
@@ -153,6 +157,8 @@ impl Ending {
                 write_line(faults, role.label().as_bytes(), b"cannot read")
             }
             Ending::CannotWrite => write_line(faults, b"", b"cannot write"),
+            Ending::Locked => write_line(faults, b"journal: ", b"Locked"),
+            Ending::CannotKeep => write_line(faults, b"journal: ", b"cannot write"),
         }
     }
 

@@ -84,6 +84,12 @@ fn path_of(request: &Request, role: Role) -> Option<&String>
             Role::Journal => request.journal.as_ref(),
             _ => archive_path(role, &request.files),
         },
+        Request::Desk(request) => match role {
+            Role::State => request.state.as_ref(),
+            Role::Tracker => request.tracker.as_ref(),
+            Role::Journal => Some(&request.journal),
+            _ => archive_path(role, &request.files),
+        },
     }
 }
 
@@ -289,7 +295,8 @@ fn explain_fault<T: Texts>(
         InputFault::TooLong
         | InputFault::Simulation(_)
         | InputFault::BadOutcome(_)
-        | InputFault::Form(_) => explain_seen(alloc, role, fault, input, request, texts),
+        | InputFault::Form(_)
+        | InputFault::DeskFile(_) => explain_seen(alloc, role, fault, input, request, texts),
     }
 }
 
@@ -382,7 +389,7 @@ fn explanation<T: Texts>(
         }
         Ending::CannotRead(role) => explain_unread(alloc, role, request, texts),
         Ending::Done | Ending::Refused => copied(&ended.notes),
-        Ending::NoMemory | Ending::CannotWrite => Ok(None),
+        Ending::NoMemory | Ending::CannotWrite | Ending::Locked | Ending::CannotKeep => Ok(None),
     }
 }
 

@@ -1,15 +1,17 @@
 //! Which files the folder has that the words give, and what the words ask for then.
 ghost use Rattle.std.specs.Prelude.{◌≡◌, ◌&&◌, not, List, [], ℕ, IfOk, IfErr, MatchResult, map};
 ghost use Rattle.std.specs.Prelude.{option_map, codes, string_bytes};
-ghost use Rattle.td_words.specs.Asked.{check_of, plan_of, report_of, request_words, run_of};
+ghost use Rattle.td_words.specs.Asked.{check_of, desk_of, plan_of, report_of, request_words};
+ghost use Rattle.td_words.specs.Asked.{run_of};
 ghost use Rattle.td_words.specs.Asked.{waves_of};
 ghost use Rattle.td_words.specs.CheckWords.{AskForCheck, CheckWords};
 ghost use Rattle.td_words.specs.CommandLine.{AskFor, RunWords, TrackWords, WavesWords};
 ghost use Rattle.td_words.specs.CommandLine.{faults_of, is_explained, options_of};
+ghost use Rattle.td_words.specs.DeskWords.{DeskWords};
 ghost use Rattle.td_words.specs.PlanWords.{PlanWords};
-ghost use Rattle.td_tool.specs.FolderFiles.{AskFound, AsksForPlan, AsksForRun, AsksForTrack};
-ghost use Rattle.td_tool.specs.FolderFiles.{AsksForWaves, CanBeFound, CanBePresent, CanBeThere};
-ghost use Rattle.td_tool.specs.FolderFiles.{TellsWhich, is_folder as is_folder_of};
+ghost use Rattle.td_tool.specs.FolderFiles.{AskFound, AsksForDesk, AsksForPlan, AsksForRun};
+ghost use Rattle.td_tool.specs.FolderFiles.{AsksForTrack, AsksForWaves, CanBeFound, CanBePresent};
+ghost use Rattle.td_tool.specs.FolderFiles.{CanBeThere, TellsWhich, is_folder as is_folder_of};
 ghost use Rattle.td_tool.specs.FolderFiles.{leads_nowhere as leads_nowhere_of};
 ghost use Rattle.td_words.specs.Folder.{in_folder as in_folder_of};
 
@@ -129,6 +131,10 @@ pub fn read_call<T: Texts>(alloc: Global, words: &[String], texts: &T) -> Result
     ensures run { (w : RunWords)
         → AsksForRun (T.can_be texts.now) (map string_bytes words.now) w
         → MatchResult result (λ c. request_words c.request ≡ run_of w)
+        (λ e. e ≡ WordsFault.NoMemory) }
+    ensures desk { (w : DeskWords)
+        → AsksForDesk (T.can_be texts.now) (map string_bytes words.now) w
+        → MatchResult result (λ c. request_words c.request ≡ desk_of w)
         (λ e. e ≡ WordsFault.NoMemory) }
     ensures said { IfErr result (TellsWhich (T.can_be texts.now) (map string_bytes words.now)) }
     ensures only { IfOk result (λ c. AskFound (T.can_be texts.now) (map string_bytes words.now)

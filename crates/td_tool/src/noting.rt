@@ -79,8 +79,12 @@ fn notes_if(
 {
     match ending {
         Ending::Done | Ending::Refused => note_script(rt, alloc, inputs, script),
-        Ending::BadInput(_, _) | Ending::NoMemory | Ending::CannotRead(_) | Ending::CannotWrite =>
-            None,
+        Ending::BadInput(_, _)
+        | Ending::NoMemory
+        | Ending::CannotRead(_)
+        | Ending::CannotWrite
+        | Ending::Locked
+        | Ending::CannotKeep => None,
     }
 }
 

@@ -1,5 +1,6 @@
 //! Where in its text a refusal is.
 ghost use Rattle.std.specs.Prelude.{◌≡◌};
+ghost use Rattle.td_tool.specs.DeskFaults.{place_in_desk_file as place_in_desk_file_of};
 ghost use Rattle.td_tool.specs.Places.{place_in_form as place_in_form_of};
 ghost use Rattle.td_tool.specs.Places.{place_in_index as place_in_index_of};
 ghost use Rattle.td_tool.specs.Places.{place_in_journal as place_in_journal_of};
@@ -19,6 +20,7 @@ use td_explain::Place;
 use td_indices::{ArchiveFault, RelationField};
 use td_inputs::FormFault;
 use td_journal::ReadError;
+use td_lasting::FileFault;
 use td_query::TrackerFault;
 use td_relation::ArchsFault;
 use td_rows::StateFault;
@@ -121,6 +123,17 @@ fn place_in_form(fault: FormFault) -> Place
     }
 }
 
+fn place_in_desk_file(fault: FileFault) -> Place
+    ensures { result ≡ place_in_desk_file_of fault }
+{
+    match fault {
+        FileFault::BadHeader | FileFault::OtherRows => Place::Line(1),
+        FileFault::BadLine(n) | FileFault::Unlawful(n) => Place::Line(n),
+        FileFault::NotText | FileFault::CannotRead | FileFault::CannotWrite | FileFault::NoMemory =>
+            Place::Whole,
+    }
+}
+
 /// The place of a fault in its text, as the fault has it.
 pub fn place_of(fault: InputFault) -> Place
     ensures { result ≡ place_of_of fault }
@@ -130,6 +143,7 @@ pub fn place_of(fault: InputFault) -> Place
         InputFault::Simulation(fault) => place_in_simulation(fault),
         InputFault::BadOutcome(n) => Place::Line(n),
         InputFault::Form(fault) => place_in_form(fault),
+        InputFault::DeskFile(fault) => place_in_desk_file(fault),
     }
 }
 
@@ -170,6 +184,7 @@ pub fn relation_of(fault: InputFault) -> Option<(usize, RelationField)>
         InputFault::TooLong
         | InputFault::NotText
         | InputFault::Simulation(_)
-        | InputFault::BadOutcome(_) => None,
+        | InputFault::BadOutcome(_)
+        | InputFault::DeskFile(_) => None,
     }
 }

@@ -57,7 +57,8 @@ pub trait Texts {
         // A read fails only for a fault that the file may have.
         ensures fails { IfErr result (λ fault. can_fail self.now path.now fault ≡ true) };
 
-    /// Reads a whole file, a text of at most `limit` bytes, as its front and its rest, side by side;
+    /// Reads a whole file, a text of at most `limit` bytes, as its front and its rest, side by
+    /// side;
     /// `None` if it isn't read so, for whatever reason.
     fn halves<R: Threads + Sync>(
         &self,

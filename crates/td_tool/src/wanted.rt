@@ -1,5 +1,6 @@
 //! What is wanted instead of what is refused.
 ghost use Rattle.std.specs.Prelude.{◌≡◌, ◌<◌, ◌^◌, length};
+ghost use Rattle.td_tool.specs.DeskFaults.{wanted_desk_file};
 ghost use Rattle.td_tool.specs.Wanted.{file_said, unpacked, wanted_arch, wanted_archive};
 ghost use Rattle.td_tool.specs.Wanted.{wanted_field, wanted_file, wanted_form, wanted_input};
 ghost use Rattle.td_tool.specs.Wanted.{wanted_journal, wanted_key, wanted_relation};
@@ -13,6 +14,7 @@ use td_explain::{ArchFlaw, Stray, arch_flaw, stray_at};
 use td_indices::{ArchiveFault, IndexField, RelationField, VersionField};
 use td_inputs::FormFault;
 use td_journal::ReadError;
+use td_lasting::FileFault;
 use td_query::{TrackerFault, TrackerKey};
 use td_relation::ArchsFault;
 use td_rows::StateFault;
@@ -208,6 +210,22 @@ fn wanted_form(fault: FormFault, text: &str) -> &'static str
     }
 }
 
+// What is wanted of a desk's file.
+fn wanted_desk_file(fault: FileFault) -> &'static str
+    ensures { result.now ≡ wanted_desk_file fault }
+{
+    match fault {
+        FileFault::NotText => "a text in UTF-8",
+        FileFault::BadHeader => "a desk's header line with its newline, as transdesk desk 1 HASH",
+        FileFault::OtherRows =>
+            "the indices, the table and the state file that the desk was begun over",
+        FileFault::BadLine(_) => "the next entry or an undo, as docs/FORMATS.md has desks",
+        FileFault::Unlawful(_) =>
+            "an entry that applies on the rows, or an undo that no later entry blocks",
+        FileFault::CannotRead | FileFault::CannotWrite | FileFault::NoMemory => "",
+    }
+}
+
 /// What is wanted instead of what this text is refused for.
 pub fn wanted(fault: InputFault, text: &str) -> &'static str
     requires { length text.now < 2 ^ 63 }
@@ -219,6 +237,7 @@ pub fn wanted(fault: InputFault, text: &str) -> &'static str
         InputFault::Simulation(fault) => wanted_simulation(fault),
         InputFault::BadOutcome(_) => "how a build ends, as KEY OUTCOME",
         InputFault::Form(fault) => wanted_form(fault, text),
+        InputFault::DeskFile(fault) => wanted_desk_file(fault),
     }
 }
 

@@ -7,6 +7,7 @@ use Rattle.td_words.specs.Folder.{in_folder}
 use Rattle.td_words.specs.FolderWords.{FolderWordsAsk, folder_check, folder_words}
 use Rattle.td_words.proofs.Asking.{archived, has_run, has_tracker, has_waves}
 use Rattle.td_words.proofs.CheckAsking.{has_check}
+use Rattle.td_words.proofs.DeskAsking.{has_desk}
 
 pub folder_words_ask : FolderWordsAsk
 unfolding clap_on_literals
@@ -44,6 +45,14 @@ folder_words_ask = record {
     (refl, refl),
     has_run _ _ _ (record { archs_path = refl; packages_path = refl; sources_path = refl })
         refl refl refl refl refl refl,
+  );
+  desk = λ present program folder. (
+    (refl, refl),
+    has_desk _ _ _ (archived _ _ _ _ refl refl refl) refl refl refl refl refl,
+  );
+  own_journal = λ present program folder journal. (
+    (refl, refl),
+    has_desk _ _ _ (archived _ _ _ _ refl refl refl) refl refl refl refl refl,
   );
 }
   where

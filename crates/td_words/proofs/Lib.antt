@@ -4,4 +4,6 @@ pub mod CheckAsking
 pub mod PlanAsking
 pub mod Apart
 pub mod WordsApart
+pub mod DeskAsking
+pub mod DeskApart
 pub mod FolderAsking

@@ -31,24 +31,24 @@ use Rattle.td_words.proofs.Apart.{words_of}
 use Rattle.td_words.proofs.PlanAsking.{ArePlanOptions, has_plan}
 
 -- a subcommand as it is built
-abbrev built_as : List ℕ → Shape → Shape
+abbrev pub built_as : List ℕ → Shape → Shape
 built_as name shape = unwrap_or (find (λ s. bytes_eq s.name name) (built desk).subs) shape
 
 -- the files of an archive, and what follows them
-abbrev archive_given : List ℕ → List ℕ → List ℕ → List Given → List Given
+abbrev pub archive_given : List ℕ → List ℕ → List ℕ → List Given → List Given
 archive_given a p s more = (codes "archs", a) ∷ (codes "packages", p) ∷ (codes "sources", s) ∷ more
 
 -- what a subcommand is entered with, once the words after it are walked through
-abbrev entered : List ℕ → Shape → List Given → Option (List ℕ × List Row)
+abbrev pub entered : List ℕ → Shape → List Given → Option (List ℕ × List Row)
 entered name b gs =
     Some (name, finished b.rules (fold (stepped b) (walk_from nothing_held) (words_of gs)).held)
 
 -- what may be wrong with these words
-abbrev faults_in : Shape → List Given → Kinds
+abbrev pub faults_in : Shape → List Given → Kinds
 faults_in b gs = or_else (level_fault b [] nothing_held (words_of gs) false []) []
 
 -- if no value is taken for an option, the words ask for the subcommand, and give these values
-asked_by : (Has : List Row → Type 0) (name : List ℕ) (b : Shape) (words : List (List ℕ))
+pub asked_by : (Has : List Row → Type 0) (name : List ℕ) (b : Shape) (words : List (List ℕ))
     (gs : List Given) → subcommand_of desk words ≡ entered name b gs
     → faults_of words ≡ faults_in b gs → end_fault b gs ≡ []
     → Opens b (walk_from nothing_held) gs → Has (finished b.rules (ended b gs).held)
@@ -93,7 +93,7 @@ asks_for_waves_apart present program w levels h pt =
 abbrev built_track : Shape
 built_track = built_as (codes "track") (track_shape false)
 
-abbrev if_given : List ℕ → Option (List ℕ) → List Given → List Given
+abbrev pub if_given : List ℕ → Option (List ℕ) → List Given → List Given
 if_given name None more = more
 if_given name (Some value) more = (name, value) ∷ more
 

@@ -10,15 +10,17 @@ use Rattle.td_words.specs.declared.request.CheckRequest.{CheckRequest}
 use Rattle.td_words.specs.declared.request.TrackRequest.{TrackRequest}
 use Rattle.td_words.specs.declared.request.RunRequest.{RunRequest}
 use Rattle.td_words.specs.declared.request.PlanRequest.{PlanRequest}
+use Rattle.td_words.specs.declared.request.DeskRequest.{DeskRequest}
 use Rattle.td_words.specs.declared.request.WavesRequest.{WavesRequest}
 use Rattle.td_words.specs.declared.request.Request.{Request}
 use Rattle.td_words.specs.declared.request.Request.TheVariants.{Simulate, Check, Track, Waves}
-use Rattle.td_words.specs.declared.request.Request.TheVariants.{Plan, Run}
+use Rattle.td_words.specs.declared.request.Request.TheVariants.{Plan, Run, Desk}
 use Rattle.td_words.specs.declared.request.WordsFault.{WordsFault}
 use Rattle.td_words.specs.declared.request.WordsFault.TheVariants.{Usage, NoMemory}
 use Rattle.td_words.specs.CommandLine.{HasFiles, HasRun, HasTrack, HasWaves, RunWords, TrackWords}
 use Rattle.td_words.specs.CommandLine.{WavesWords, chunk_in, desk, faults_of, name_in, rows_in}
 use Rattle.td_words.specs.CheckWords.{CheckWords, HasCheck}
+use Rattle.td_words.specs.DeskWords.{DeskWords, HasDesk}
 use Rattle.td_words.specs.PlanWords.{HasPlan, PlanWords}
 use Rattle.td_words.specs.ShownWords.{shown_said}
 
@@ -80,6 +82,19 @@ run_words r = record {
   journal = option_map string_bytes r.journal;
 }
 
+-- what a desk is asked for with, by the texts that say so
+abbrev pub desk_words : DeskRequest → DeskWords
+desk_words r = record {
+  archs = string_bytes r.files.archs;
+  packages = string_bytes r.files.packages;
+  sources = string_bytes r.files.sources;
+  journal = string_bytes r.journal;
+  state = option_map string_bytes r.state;
+  tracker = option_map string_bytes r.tracker;
+  suite = string_bytes r.suite;
+  waits = r.waits;
+}
+
 -- what is asked for, by the texts that say so
 pub data RequestWords : Type 0 where
   simulation : RequestWords
@@ -88,6 +103,7 @@ pub data RequestWords : Type 0 where
   waves_of : WavesWords → RequestWords
   plan_of : PlanWords → RequestWords
   run_of : RunWords → RequestWords
+  desk_of : DeskWords → RequestWords
 
 -- the texts of a request
 abbrev pub request_words : Request → RequestWords
@@ -97,6 +113,7 @@ request_words (Track r) = report_of (track_words r)
 request_words (Waves r) = waves_of (waves_words r)
 request_words (Plan r) = plan_of (plan_words r)
 request_words (Run r) = run_of (run_words r)
+request_words (Desk r) = desk_of (desk_words r)
 
 -- a subcommand asks for just this, with its options, by what is in the folder
 abbrev pub IsGivenBy : Present → Option (List ℕ × List Row) → RequestWords → Type 0
@@ -111,6 +128,8 @@ IsGivenBy present found (plan_of w) =
     (name_in found ≡ Some (codes "plan")) × HasPlan present (rows_in found) w
 IsGivenBy present found (run_of w) =
     (name_in found ≡ Some (codes "run")) × HasRun present (rows_in found) w
+IsGivenBy present found (desk_of w) =
+    (name_in found ≡ Some (codes "desk")) × HasDesk present (rows_in found) w
 
 -- the words of a command line ask for just this, and nothing is wrong with them
 abbrev pub Asks : Present → List (List ℕ) → RequestWords → Type 0

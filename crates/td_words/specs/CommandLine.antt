@@ -111,6 +111,17 @@ run_shape strict =
     (with_explanation
     (with_crew_rules (with_desk_rules (with_archive_rules strict (new_app (codes "run")))))).top
 
+-- a desk that lasts needs its file and the files of an archive, may be given what a run's desk is
+-- opened with, and may be told to wait for its file
+abbrev pub with_lasting_rules : Bool → App → App
+with_lasting_rules strict a =
+    with_rule (with_desk_rules (with_archive_rules strict
+    (with_rule a (needed_option strict (codes "journal"))))) (flag_of (codes "wait"))
+
+-- the subcommand `desk`
+abbrev pub desk_shape : Bool → Shape
+desk_shape strict = (with_explanation (with_lasting_rules strict (new_app (codes "desk")))).top
+
 -- the program has a version, and wants one of its subcommands
 abbrev pub bare_desk : App
 bare_desk = on_top (λ s. record s { has_version = true; subcommand_required = true })
@@ -123,7 +134,9 @@ desk_by strict =
     in
     let tracking = with_subcommand (with_subcommand counting (track_shape strict))
     (waves_shape strict) in
-    with_subcommand (with_subcommand tracking (plan_shape strict)) (run_shape strict)
+    let running = with_subcommand (with_subcommand tracking (plan_shape strict)) (run_shape strict)
+    in
+    with_subcommand running (desk_shape strict)
 
 -- the command line that says what words ask for
 abbrev pub desk : App

@@ -1,10 +1,11 @@
 -- The words that give a folder ask for the files in it. This project's own.
-use Rattle.std.specs.Prelude.{ℕ, List, [], ◌∷◌, Bool, true, Option, Some, None, codes}
+use Rattle.std.specs.Prelude.{ℕ, List, [], ◌∷◌, Bool, true, false, Option, Some, None, codes}
 use Rattle.td_report.specs.Report.{all_shown}
 use Rattle.td_words.specs.declared.present.Present.{Present}
 use Rattle.td_words.specs.CheckWords.{AskForCheck, CheckWords, detail_words}
 use Rattle.td_words.specs.CommandLine.{AskForRun, AskForTrack, AskForWaves, RunWords, TrackWords}
 use Rattle.td_words.specs.CommandLine.{WavesWords, given, usual_suite}
+use Rattle.td_words.specs.DeskWords.{AskForDesk, DeskWords}
 use Rattle.td_words.specs.PlanWords.{AreLineWords, AskForPlan, PlanWords}
 use Rattle.td_words.specs.ShownWords.{by_levels}
 use Rattle.td_words.specs.Folder.{if_there, in_folder}
@@ -75,6 +76,19 @@ folder_run present folder = record {
   journal = there present.journal (codes "journal") folder;
 }
 
+-- the desk over a folder, with its own file at this path
+abbrev pub folder_desk : Present → List ℕ → List ℕ → DeskWords
+folder_desk present folder journal = record {
+  archs = in_folder (codes "archs") folder;
+  packages = in_folder (codes "packages") folder;
+  sources = in_folder (codes "sources") folder;
+  journal = journal;
+  state = there present.state (codes "state") folder;
+  tracker = there present.tracker (codes "tracker") folder;
+  suite = usual_suite;
+  waits = false;
+}
+
 -- what a folder has if it has a tracker
 abbrev pub with_tracker : Bool → Bool → Present
 with_tracker state journal = record { state = state; tracker = true; journal = journal }
@@ -102,3 +116,10 @@ pub record FolderWordsAsk : Type 0 where
       (folder_plan state folder message)
   pub run : (present : Present) (program folder : List ℕ)
       → AskForRun present (folder_words program (codes "run") folder []) (folder_run present folder)
+  pub desk : (present : Present) (program folder : List ℕ)
+      → AskForDesk present (folder_words program (codes "desk") folder [])
+      (folder_desk present folder (in_folder (codes "journal") folder))
+  pub own_journal : (present : Present) (program folder journal : List ℕ)
+      → AskForDesk present
+      (folder_words program (codes "desk") folder (given (codes "journal") journal ∷ []))
+      (folder_desk present folder journal)

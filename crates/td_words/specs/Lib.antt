@@ -6,5 +6,6 @@ pub mod PlanWords
 pub mod Asked
 pub mod WordsApart
 pub mod CheckWords
+pub mod DeskWords
 pub mod FolderWords
 pub mod inner

@@ -12,7 +12,13 @@ use clap::error::ErrorKind;
 use clap::{ArgMatches, Error};
 use std::alloc::Global;
 
-fn text_of(alloc: Global, error: &Error) -> WordsFault {
+// The text of an error, unless it is that memory ran out.
+fn text_of(alloc: Global, error: &Error) -> WordsFault
+    ensures { kind_of error.now ≡ ErrorKind.OutOfMemory → result ≡ WordsFault.NoMemory }
+{
+    if error.kind() == ErrorKind::OutOfMemory {
+        return WordsFault::NoMemory;
+    }
     match error.to_string(alloc) {
         Ok(text) => WordsFault::Usage(text),
         Err(_) => WordsFault::NoMemory,

@@ -3,42 +3,18 @@ ghost use Rattle.std.specs.Prelude.{◌≡◌, IfOk, false};
 ghost use Rattle.clap.specs.Simple.{App, Shape, app_of, shape_of, with_rule, with_subcommand};
 ghost use Rattle.clap.specs.declared.builder.command.Command.TheViews.{out-Command};
 ghost use Rattle.clap.specs.Walk.{rule_of};
-ghost use Rattle.td_words.specs.CommandLine.{bare_desk, check_shape, desk_by, flag_of};
+ghost use Rattle.td_words.specs.CommandLine.{bare_desk, check_shape, desk_by, desk_shape, flag_of};
 ghost use Rattle.td_words.specs.CommandLine.{needed_option};
 ghost use Rattle.td_words.specs.CommandLine.{option_of, plan_shape, run_shape, simulate_shape};
 ghost use Rattle.td_words.specs.CommandLine.{track_shape, waves_shape, with_archive_rules};
 ghost use Rattle.td_words.specs.CommandLine.{with_check_rules};
 ghost use Rattle.td_words.specs.CommandLine.{with_crew_rules, with_desk_rules, with_explanation};
-ghost use Rattle.td_words.specs.CommandLine.{with_form_rules, with_plan_rules, with_report_rules};
-ghost use Rattle.td_words.specs.CommandLine.{with_tracker_rules};
+ghost use Rattle.td_words.specs.CommandLine.{with_form_rules, with_lasting_rules, with_plan_rules};
+ghost use Rattle.td_words.specs.CommandLine.{with_report_rules, with_tracker_rules};
 
+use crate::help::{CHECK, DESK, PLAN, RUN, SIMULATE, STATUSES, TRACK, WAVES};
 use clap::{Arg, ArgAction, Command};
 use std::alloc::{AllocError, Global};
-
-const STATUSES: &str = "\
-Exit status:
-  0  done
-  1  something was refused; standard output says what, but not of a builder that is missing
-  2  bad input
-  3  bad command line, or a call for help or the version
-  4  want of memory
-  5  a read or a write failed
-With 2, 4 and 5 standard error has one line that says what was wrong; with --explain a second one
-says what is wanted of a refused text, and where, if the fault has a place, or of a file that can't
-be read.
-
-docs/FORMATS.md says exactly what is read and printed.";
-
-const SIMULATE: &str = "\
-Standard input has opening rows, a line `steps`, and a step on each line after it:
-  foo/amd64 Failed 0 1
-  steps
-  gb foo/amd64
-  undo 1
-Standard output has the answer to each step, then a line `rows` and the rows as they are then.
-Nothing is printed where the input isn't of this form.
-
-docs/FORMATS.md says exactly what is read and printed, and lists the steps.";
 
 const EXPLAIN: &str = "Say on a second line where a refused text is wrong, and what is wanted";
 
@@ -88,18 +64,6 @@ fn simulate<'a>(alloc: Global) -> Result<Command<'a>, AllocError>
     explained(alloc, command)
 }
 
-const CHECK: &str = "\
-The three files are read whole. Standard output has one line:
-  sources S binaries B rows R
-S sources and B binary packages count, and a desk would open with R rows.
-With --details it then has a line for each architecture of the table, with its own packages, its
-rows, and those that open as Needs-Build; and warnings of what is read but rarely meant:
-  arch NAME binaries B rows R needs-build N
-  warning: TEXT
-Nothing is printed where a file isn't of its form; standard error names it.
-
-docs/FORMATS.md says exactly which stanzas count, and which architectures have rows.";
-
 const ARCHS: &str = "The table of architectures: a line `NAME OS CPU` for each";
 
 const PACKAGES: &str = "The Packages index of those architectures";
@@ -139,33 +103,6 @@ fn check<'a>(alloc: Global, strict: bool) -> Result<Command<'a>, AllocError>
 }
 
 const STATE: &str = "Rows to put in the place of those that the indices say";
-
-const TRACK: &str = "\
-The files are read whole. Standard output has the report of the rows that the tracker affects:
-  tracker TITLE
-  level K rows R installed I
-  KEY STATUS STATE PRIORITY NUMBER
-  cyclic rows R installed I
-  affected A good G bad B partial P unknown U
-With --only or --summary the lines that count stay as they are.
-Nothing is printed where a file isn't of its form; standard error names it.
-
-docs/FORMATS.md says exactly what is read and printed.";
-
-const WAVES: &str = "\
-The files are read whole. Standard output has the sources that the tracker affects, by the levels in
-which they can be rebuilt:
-  level K
-  SOURCE
-  cyclic
-With --steps it has them by steps. Sources that build on one another are on one line:
-  step K
-  SOURCE SOURCE
-With --why each source has a line, with the sources on which it builds and a package of each:
-  SOURCE: BASE PACKAGE, BASE PACKAGE
-Nothing is printed where a file isn't of its form; standard error names it.
-
-docs/FORMATS.md says exactly what is read and printed.";
 
 // An option that may be left out, with one value.
 fn option<'a>(alloc: Global, name: &'static str, value: &'static str, help: &'static str) -> Arg<'a>
@@ -330,22 +267,6 @@ fn track<'a>(alloc: Global, strict: bool) -> Result<Command<'a>, AllocError>
     explained(alloc, command)
 }
 
-const PLAN: &str = "\
-The files are read whole. Standard output has a script: lines that rebuild what the tracker calls
-bad or partial, each source under one number and step by step, and that say what each row waits
-for:
-  # tracker TITLE
-  # step K
-  nmu N SOURCE_VERSION . ARCH.. . SUITE . -m \"TEXT\"
-  dw SOURCE_VERSION . ARCH.. . SUITE . -m \"PACKAGE (>= VERSION)\"
-  # not planned: KEY STATUS STATE NUMBER REASON
-Give them all to one `run` or desk: between an `nmu` line and its `dw` line a builder could claim
-the row. TEXT is one line; it stands in single quotes where it has a double quote, a dollar, a
-backquote or a backslash, and then it has no single quote.
-Nothing is printed where a file isn't of its form; standard error names it.
-
-docs/FORMATS.md says exactly what is read and printed.";
-
 // The command with the files of a tracker, and with the options of a plan.
 fn with_plan<'a>(
     alloc: Global,
@@ -374,24 +295,6 @@ fn plan<'a>(alloc: Global, strict: bool) -> Result<Command<'a>, AllocError>
     let command = with_plan(alloc, command, strict)?;
     explained(alloc, command)
 }
-
-const RUN: &str = "\
-The files are read whole, and then the script on standard input, a line for each thing to be done:
-  nmu foo . ANY . unstable . -m \"Rebuild against libbar2\"
-  row foo amd64
-  undo 1
-Standard output has the answer to each line:
-  entry 1 takes foo/amd64 foo/i386
-  foo/amd64 Needs-Build 0 1
-  undone 1
-A line that isn't of its form is refused, and the others are done. Nothing is printed where a file
-isn't of its form, or the script no text or too long; standard error names it.
-With --journal the script goes on with what an earlier one did, as the line `journal` printed it.
-With --builders, builders work beside the script; then the rows are printed as they leave them,
-behind a line `rows`. Their builds end as the lines of --outcomes say (foo/amd64 givenback), and as
-built where none is left; without builders that file is read and not looked at.
-
-docs/FORMATS.md says exactly what is read and printed, and lists the lines.";
 
 // The command with what a desk is opened with as well as an archive.
 fn with_desk<'a>(alloc: Global, command: Command<'a>) -> Result<Command<'a>, AllocError>
@@ -435,6 +338,35 @@ fn run<'a>(alloc: Global, strict: bool) -> Result<Command<'a>, AllocError>
     explained(alloc, command)
 }
 
+// The command with a desk's own file, and with all that the desk is opened with.
+fn with_lasting<'a>(
+    alloc: Global,
+    command: Command<'a>,
+    strict: bool,
+) -> Result<Command<'a>, AllocError>
+    ensures app { IfOk result (λ c. app_of c ≡ with_lasting_rules strict (app_of command.entry)) }
+    ensures globals { (out-Command command.entry).has_globals ≡ false
+        → IfOk result (λ c. (out-Command c).has_globals ≡ false) }
+{
+    let journal = "The file that keeps what was done; it is made if it isn't there";
+    let wait = "Wait while another desk has the file, instead of ending with status 5";
+    let command = with_file(alloc, command, strict, "journal", journal)?;
+    let command = with_archive(alloc, command, strict)?;
+    let command = with_desk(alloc, command)?;
+    with_flag(alloc, command, "wait", wait)
+}
+
+fn desk<'a>(alloc: Global, strict: bool) -> Result<Command<'a>, AllocError>
+    ensures shape { IfOk result (λ c. shape_of c ≡ desk_shape strict) }
+    ensures globals { IfOk result (λ c. (out-Command c).has_globals ≡ false) }
+{
+    let command = Command::new(alloc, "desk")
+        .about("Answer each line at once over the rows of an archive, and keep what is done")
+        .after_help(DESK);
+    let command = with_lasting(alloc, command, strict)?;
+    explained(alloc, command)
+}
+
 // The program without its subcommands.
 fn program<'a>(alloc: Global) -> Command<'a>
     ensures { app_of result ≡ bare_desk }
@@ -470,5 +402,6 @@ pub(crate) fn command<'a>(alloc: Global, strict: bool) -> Result<Command<'a>, Al
     let whole = with_part(whole, track(alloc, strict));
     let whole = with_part(whole, waves(alloc, strict));
     let whole = with_part(whole, plan(alloc, strict));
-    with_part(whole, run(alloc, strict))
+    let whole = with_part(whole, run(alloc, strict));
+    with_part(whole, desk(alloc, strict))
 }

@@ -4,6 +4,7 @@ ghost use Rattle.td_words.specs.CommandLine.{PlainRunWordsAsk, RunWordsExplain, 
 ghost use Rattle.td_words.specs.CommandLine.{TrackWordsAsk, TrackWordsExplain, WavesWordsAsk};
 ghost use Rattle.td_words.specs.CommandLine.{WavesWordsExplain, WholeRunWordsAsk};
 ghost use Rattle.td_words.specs.CommandLine.{ShownWordsAsk};
+ghost use Rattle.td_words.specs.DeskWords.{DeskWordsAsk, DeskWordsExplain, SeparateDeskWordsAsk};
 ghost use Rattle.td_words.specs.FolderWords.{FolderWordsAsk};
 ghost use Rattle.td_words.specs.PlanWords.{PlanWordsAsk, PlanWordsExplain, SeparatePlanWordsAsk};
 ghost use Rattle.td_words.specs.WordsApart.{SeparatePlainRunWordsAsk, SeparateTrackWordsAsk};
@@ -59,8 +60,17 @@ pub fn words_of_a_run_ask_for_it()
     ensures explained { RunWordsExplain }
 {}
 
-/// Words that give only a folder ask for the files in it: for the three of an archive whether they
-/// are there or not, and for the others if they are there. The path of a file's own option wins.
+/// The words of a desk ask for it: with other rows, a tracker and a suite or without them, waiting
+/// for its file or not. If it doesn't wait, each value may be a word of its own.
+pub fn words_of_a_desk_ask_for_it()
+    ensures joined { DeskWordsAsk }
+    ensures separate { SeparateDeskWordsAsk }
+    ensures explained { DeskWordsExplain }
+{}
+
+/// Words that give only a folder ask for the files in it: for the three of an archive and that of a
+/// desk whether they are there or not, and for the others if they are there. The path of a file's own
+/// option wins.
 pub fn words_of_a_folder_ask_for_its_files()
     ensures { FolderWordsAsk }
 {}

@@ -14,7 +14,9 @@
 mod bad_words;
 mod check_words;
 mod command;
+mod desk_words;
 mod folder;
+mod help;
 mod laws;
 mod line_words;
 mod plan_words;
@@ -22,16 +24,17 @@ mod present;
 mod request;
 mod run_words;
 mod track_words;
+mod waves_words;
 
 pub use folder::in_folder;
 pub use laws::{
-    words_of_a_check_ask_for_it, words_of_a_folder_ask_for_its_files, words_of_a_plan_ask_for_it,
-    words_of_a_run_ask_for_it, words_of_a_simulation_ask_for_it, words_of_a_track_ask_for_it,
-    words_of_waves_ask_for_them,
+    words_of_a_check_ask_for_it, words_of_a_desk_ask_for_it, words_of_a_folder_ask_for_its_files,
+    words_of_a_plan_ask_for_it, words_of_a_run_ask_for_it, words_of_a_simulation_ask_for_it,
+    words_of_a_track_ask_for_it, words_of_waves_ask_for_them,
 };
 pub use line_words::LineWords;
 pub use present::Present;
 pub use request::{
-    ArchivePaths, Call, CheckRequest, PlanRequest, Request, RunRequest, TrackRequest, WavesForm,
-    WordsFault, read_folder, read_words,
+    ArchivePaths, Call, CheckRequest, DeskRequest, PlanRequest, Request, RunRequest, TrackRequest,
+    WavesForm, WordsFault, read_folder, read_words,
 };

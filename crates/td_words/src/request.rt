@@ -13,20 +13,23 @@ ghost use Rattle.td_words.specs.CommandLine.{faults_of, is_explained, name_in, o
 ghost use Rattle.td_words.specs.CommandLine.{rows_in};
 ghost use Rattle.td_words.specs.Folder.{folder_in, path_if, tracker_said};
 ghost use Rattle.td_words.specs.Asked.{AreFilesIn, AreFilesOf, Asks, IsGivenBy, IsUsage, call_as};
-ghost use Rattle.td_words.specs.Asked.{builders_said, check_of, plan_of, report_of, request_words};
-ghost use Rattle.td_words.specs.Asked.{run_of, track_said, waves_of};
+ghost use Rattle.td_words.specs.Asked.{builders_said, check_of, desk_of, plan_of, report_of};
+ghost use Rattle.td_words.specs.Asked.{request_words, run_of, track_said, waves_of};
+ghost use Rattle.td_words.specs.DeskWords.{AskForDesk, DeskWords, HasDesk};
 ghost use Rattle.td_words.specs.PlanWords.{AskForPlan, HasPlan, PlanWords, line_words_said};
-ghost use Rattle.td_words.specs.ShownWords.{form_in as form_in_of, is_set as is_set_in};
+ghost use Rattle.td_words.specs.ShownWords.{is_set as is_set_in};
 
 use crate::bad_words::{fault_of, lacking};
 use crate::check_words::check_in;
 use crate::command::command;
-use crate::folder::{path_in, tracker_in};
+use crate::desk_words::desk_in;
+use crate::folder::path_in;
 use crate::line_words::LineWords;
 use crate::plan_words::plan_in;
 use crate::present::Present;
 use crate::run_words::run_in;
 use crate::track_words::track_in;
+use crate::waves_words::waves_in;
 use clap::ArgMatches;
 use std::alloc::{AllocError, Global};
 use td_report::Shown;
@@ -106,6 +109,21 @@ pub struct RunRequest {
     pub journal: Option<String>,
 }
 
+/// A desk over these files that lasts.
+#[derive(Drop)]
+pub struct DeskRequest {
+    pub files: ArchivePaths,
+    /// The file that keeps what was done. It need not be there yet.
+    pub journal: String,
+    /// Rows to use instead of those that the indices say.
+    pub state: Option<String>,
+    pub tracker: Option<String>,
+    /// The suite that command lines may name.
+    pub suite: String,
+    /// Whether to wait while another desk has the file.
+    pub waits: bool,
+}
+
 /// What the words ask for.
 #[derive(Drop)]
 pub enum Request {
@@ -118,6 +136,8 @@ pub enum Request {
     Plan(PlanRequest),
     /// The script is on standard input.
     Run(RunRequest),
+    /// The lines are on standard input.
+    Desk(DeskRequest),
 }
 
 /// What the words ask for, and whether a refusal is to be explained.
@@ -228,40 +248,6 @@ pub(crate) fn given_in(
     }
 }
 
-// How the matches of `waves` ask for affected sources to be listed.
-fn form_in(matches: &ArgMatches<'_>) -> WavesForm
-    ensures { result ≡ form_in_of (rows_of (found_of matches.now)) }
-{
-    WavesForm {
-        steps: is_set(matches, "steps"),
-        why: is_set(matches, "why"),
-    }
-}
-
-// The waves that the matches of `waves` ask for.
-fn waves_in(
-    alloc: Global,
-    words: &[String],
-    matches: &ArgMatches<'_>,
-    present: Present,
-) -> Result<Request, WordsFault>
-    ensures waves { (w : WavesWords) → HasWaves present (rows_of (found_of matches.now)) w
-        → MatchResult result (λ r. request_words r ≡ waves_of w) (λ e. e ≡ WordsFault.NoMemory) }
-    ensures lacking { (archs packages sources folder : List ℕ)
-        → HasFiles (rows_of (found_of matches.now)) archs packages sources
-        → path_if present.tracker (codes "tracker") (rows_of (found_of matches.now)) ≡ None
-        → folder_in (rows_of (found_of matches.now)) ≡ Some folder
-        → IfErr result (λ e. IsUsage e tracker_said) }
-    ensures only { IfOk result (λ r. IsGivenBy present
-        (Some (codes "waves", rows_of (found_of matches.now))) (request_words r)) }
-{
-    Ok(Request::Waves(WavesRequest {
-        files: archive_in(alloc, words, matches)?,
-        tracker: tracker_in(alloc, words, matches, present)?,
-        form: form_in(matches),
-    }))
-}
-
 // A subcommand is required, and each is listed here: others come only if `clap` broke a promise.
 fn request_in(
     alloc: Global,
@@ -293,6 +279,11 @@ fn request_in(
         → name_in (subcommand_rows_of matches.now) ≡ Some (codes "run")
         → HasRun present (rows_in (subcommand_rows_of matches.now)) w
         → MatchResult result (λ r. request_words r ≡ run_of w)
+        (λ e. e ≡ WordsFault.NoMemory) }
+    ensures desk { (w : DeskWords)
+        → name_in (subcommand_rows_of matches.now) ≡ Some (codes "desk")
+        → HasDesk present (rows_in (subcommand_rows_of matches.now)) w
+        → MatchResult result (λ r. request_words r ≡ desk_of w)
         (λ e. e ≡ WordsFault.NoMemory) }
     ensures check_said { (archs packages sources : List ℕ)
         → name_in (subcommand_rows_of matches.now) ≡ Some (codes "check")
@@ -345,6 +336,7 @@ fn request_in(
         Some((name, options)) if name == "waves" => waves_in(alloc, words, options, present),
         Some((name, options)) if name == "run" => run_in(alloc, words, options, present),
         Some((name, options)) if name == "plan" => plan_in(alloc, words, options, present),
+        Some((name, options)) if name == "desk" => desk_in(alloc, words, options, present),
         _ => Err(WordsFault::Usage(String::new(alloc))),
     }
 }
@@ -444,6 +436,10 @@ pub fn read_words(alloc: Global, words: &[String], present: Present) -> Result<C
         → AskFor (codes "run") (map string_bytes words.now)
         → HasFiles (options_of (map string_bytes words.now)) archs packages sources
         → IfErr result (λ e. IsUsage e builders_said) }
+    // Words that ask for a desk are answered by it, unless memory runs out.
+    ensures desk { (w : DeskWords) → AskForDesk present (map string_bytes words.now) w
+        → MatchResult result (λ c. request_words c.request ≡ desk_of w)
+        (λ e. e ≡ WordsFault.NoMemory) }
     // If only the tracker is missing, in a folder that is given, the fault says so.
     ensures track_lacking { (archs packages sources folder : List ℕ)
         → AskFor (codes "track") (map string_bytes words.now)

@@ -51,19 +51,20 @@ pub(crate) fn suite_in(alloc: Global, matches: &ArgMatches<'_>) -> Result<String
     }
 }
 
-// What a desk is opened with as well as an archive.
+/// What a desk is opened with as well as an archive.
 #[derive(Drop)]
-struct DeskOptions {
-    state: Option<String>,
-    tracker: Option<String>,
-    suite: String,
+pub(crate) struct OpeningOptions {
+    pub state: Option<String>,
+    pub tracker: Option<String>,
+    pub suite: String,
 }
 
-fn desk_in(
+/// What the matches of `run` or `desk` have of these.
+pub(crate) fn opening_in(
     alloc: Global,
     matches: &ArgMatches<'_>,
     present: Present,
-) -> Result<DeskOptions, WordsFault>
+) -> Result<OpeningOptions, WordsFault>
     ensures state { IfOk result (λ d. option_map string_bytes d.state
         ≡ path_if present.state (codes "state") (rows_of (found_of matches.now))) }
     ensures tracker { IfOk result (λ d. option_map string_bytes d.tracker
@@ -75,7 +76,7 @@ fn desk_in(
     let state = file_in(alloc, matches, "state", present.state)?;
     let tracker = file_in(alloc, matches, "tracker", present.tracker)?;
     let suite = suite_in(alloc, matches)?;
-    Ok(DeskOptions {
+    Ok(OpeningOptions {
         state,
         tracker,
         suite,
@@ -135,13 +136,13 @@ pub(crate) fn run_in(
         (Some (codes "run", rows_of (found_of matches.now))) (request_words r)) }
 {
     let files = archive_in(alloc, words, matches)?;
-    let desk = desk_in(alloc, matches, present)?;
+    let opening = opening_in(alloc, matches, present)?;
     let crew = crew_in(alloc, matches, present)?;
     Ok(Request::Run(RunRequest {
         files,
-        state: desk.state,
-        tracker: desk.tracker,
-        suite: desk.suite,
+        state: opening.state,
+        tracker: opening.tracker,
+        suite: opening.suite,
         builders: crew.builders,
         outcomes: crew.outcomes,
         journal: crew.journal,

@@ -1,10 +1,12 @@
 //! The program: a desk for the rebuilds of a Debian transition, whose undo is proved.
 //!
 //! Start at `main`: it hands the words, the disk and the three streams to `td_tool::tool`, which
-//! does all the rest and promises it. `disk` reads files, of whose bytes no clause knows.
+//! does all the rest and promises it. `disk` reads files, and `disk_file` keeps those of desks: of
+//! their bytes no clause knows.
 #![tactic(auto)]
 
 mod disk;
+mod disk_file;
 
 use crate::disk::Disk;
 use std::process::ExitCode;

@@ -20,7 +20,8 @@ returns-in-Check-clause-ends g c =
     let Says : Request → Ending → Type 0 =
     λ q ending. EndsFor q (g.R.Read.remaining c.args.reader.now)
     (g.R.Read.remaining c.args.reader.now) (g.T.Texts.bytes c.args.texts.now)
-    (g.T.Texts.can_fail c.args.texts.now) (g.W.Write.contents c.args.output.now)
+    (g.T.Texts.can_fail c.args.texts.now) (g.T.Desks.desks c.args.texts.now)
+    (g.W.Write.contents c.args.output.now)
     (g.W.Write.contents c.check_asked.new.output) ending in
     ends_alone (Says c.args.request.now) c.check_asked.result c.alone.result c.alone.ensures
     (subst (λ q. Says q c.check_asked.result) (sym c.in-Check.is) c.check_asked.ensures.ends)
@@ -31,14 +32,16 @@ returns-in-Check-clause-kept g c =
     (g.T.Texts.bytes c.args.texts.now)) c.check_asked.result c.alone.result c.alone.ensures
 
 pub returns-in-Check-clause-short : goal.returns-in-Check-clause-short
-returns-in-Check-clause-short g c = short_alone _ c.check_asked.result c.alone.result c.alone.ensures
+returns-in-Check-clause-short g c =
+    short_alone _ c.check_asked.result c.alone.result c.alone.ensures
 
 pub returns-in-Track-clause-ends : goal.returns-in-Track-clause-ends
 returns-in-Track-clause-ends g c =
     let Says : Request → Ending → Type 0 =
     λ q ending. EndsFor q (g.R.Read.remaining c.args.reader.now)
     (g.R.Read.remaining c.args.reader.now) (g.T.Texts.bytes c.args.texts.now)
-    (g.T.Texts.can_fail c.args.texts.now) (g.W.Write.contents c.args.output.now)
+    (g.T.Texts.can_fail c.args.texts.now) (g.T.Desks.desks c.args.texts.now)
+    (g.W.Write.contents c.args.output.now)
     (g.W.Write.contents c.track.new.output) ending in
     ends_alone (Says c.args.request.now) c.track.result c.alone-in-Track.result
     c.alone-in-Track.ensures
@@ -62,7 +65,8 @@ returns-in-Waves-clause-ends g c =
     let new = g.W.Write.contents c.track-in-Waves.new.output in
     let Says : Request → Ending → Type 0 =
     λ q ending. EndsFor q (g.R.Read.remaining c.args.reader.now)
-    (g.R.Read.remaining c.args.reader.now) bytes can_fail old new ending in
+    (g.R.Read.remaining c.args.reader.now) bytes can_fail (g.T.Desks.desks c.args.texts.now) old new
+    ending in
     let form = c.in-Waves.request.form in
     let Holds : Saying → Type 0 =
     λ said. EndsSo said (waves_files bytes can_fail (waves_words c.in-Waves.request)) old new
@@ -90,7 +94,8 @@ returns-in-Plan-clause-ends g c =
     let Says : Request → Ending → Type 0 =
     λ q ending. EndsFor q (g.R.Read.remaining c.args.reader.now)
     (g.R.Read.remaining c.args.reader.now) (g.T.Texts.bytes c.args.texts.now)
-    (g.T.Texts.can_fail c.args.texts.now) (g.W.Write.contents c.args.output.now)
+    (g.T.Texts.can_fail c.args.texts.now) (g.T.Desks.desks c.args.texts.now)
+    (g.W.Write.contents c.args.output.now)
     (g.W.Write.contents c.plan.new.output) ending in
     ends_alone (Says c.args.request.now) c.plan.result c.alone-in-Plan.result
     c.alone-in-Plan.ensures
@@ -207,7 +212,8 @@ returns-in-Run-clause-ends g c =
     let Says : Request → Ending → Type 0 =
     λ q ending. EndsFor q (g.R.Read.remaining c.args.reader.now)
     (g.R.Read.remaining c.run_explained.new.reader) (g.T.Texts.bytes c.args.texts.now)
-    (g.T.Texts.can_fail c.args.texts.now) (g.W.Write.contents c.args.output.now)
+    (g.T.Texts.can_fail c.args.texts.now) (g.T.Desks.desks c.args.texts.now)
+    (g.W.Write.contents c.args.output.now)
     (g.W.Write.contents c.run_explained.new.output) ending in
     subst (λ q. Says q c.run_explained.result.ending) (sym c.in-Run.is)
     c.run_explained.ensures.ends
@@ -232,3 +238,43 @@ returns-in-Run-clause-steady g c =
     steady_none
     (g.R.Reader.can_fail c.run_explained.new.reader ≡ g.R.Reader.can_fail c.args.reader.now)
     c.run_explained.result.input c.run_explained.ensures.none
+
+-- a desk, by its own call
+
+pub returns-in-Desk-clause-ends : goal.returns-in-Desk-clause-ends
+returns-in-Desk-clause-ends g c =
+    let Says : Request → Ending → Type 0 =
+    λ q ending. EndsFor q (g.R.Read.remaining c.args.reader.now)
+    (g.R.Read.remaining c.keep.new.reader) (g.T.Texts.bytes c.args.texts.now)
+    (g.T.Texts.can_fail c.args.texts.now) (g.T.Desks.desks c.args.texts.now)
+    (g.W.Write.contents c.args.output.now) (g.W.Write.contents c.keep.new.output) ending in
+    ends_alone (Says c.args.request.now) c.keep.result c.alone-in-Desk.result
+    c.alone-in-Desk.ensures
+    (subst (λ q. Says q c.keep.result) (sym c.in-Desk.is) c.keep.ensures.ends)
+
+pub returns-in-Desk-clause-kept : goal.returns-in-Desk-clause-kept
+returns-in-Desk-clause-kept g c =
+    kept_alone (known_of_request c.args.request.now (g.R.Read.remaining c.args.reader.now)
+    (g.T.Texts.bytes c.args.texts.now)) c.keep.result c.alone-in-Desk.result
+    c.alone-in-Desk.ensures
+
+pub returns-in-Desk-clause-short : goal.returns-in-Desk-clause-short
+returns-in-Desk-clause-short g c =
+    short_alone _ c.keep.result c.alone-in-Desk.result c.alone-in-Desk.ensures
+
+pub returns-in-Desk-clause-due : goal.returns-in-Desk-clause-due
+returns-in-Desk-clause-due g c =
+    ends_alone
+    (IsDue (g.R.Reader.can_fail c.args.reader.now) (g.W.Writer.can_fail c.args.output.now))
+    c.keep.result c.alone-in-Desk.result c.alone-in-Desk.ensures c.keep.ensures.due
+
+pub returns-in-Desk-clause-steady : goal.returns-in-Desk-clause-steady
+returns-in-Desk-clause-steady g c =
+    steady_alone (g.R.Reader.can_fail c.keep.new.reader ≡ g.R.Reader.can_fail c.args.reader.now)
+    c.keep.result c.alone-in-Desk.result c.alone-in-Desk.ensures
+
+pub returns-in-Desk-clause-noted : goal.returns-in-Desk-clause-noted
+returns-in-Desk-clause-noted g c =
+    noted_alone (NotesFor c.args.request.now (g.R.Read.remaining c.args.reader.now)
+    (g.T.Texts.bytes c.args.texts.now) (g.T.Texts.can_fail c.args.texts.now))
+    c.keep.result c.alone-in-Desk.result c.alone-in-Desk.ensures

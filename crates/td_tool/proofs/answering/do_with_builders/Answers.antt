@@ -13,10 +13,12 @@ returns-clause-ends g c =
     let Says : Request → Ending → Type 0 =
     λ q ending. EndsFor q (g.R.Read.remaining c.args.reader.now)
     (g.R.Read.remaining c.run_with_builders.new.reader) (g.T.Texts.bytes c.args.texts.now)
-    (g.T.Texts.can_fail c.args.texts.now) (g.W.Write.contents c.args.output.now)
+    (g.T.Texts.can_fail c.args.texts.now) (g.T.Desks.desks c.args.texts.now)
+    (g.W.Write.contents c.args.output.now)
     (g.W.Write.contents c.run_with_builders.new.output) ending in
     ends_alone (Says c.args.request.now) c.run_with_builders.result c.alone.result c.alone.ensures
-    (subst (λ q. Says q c.run_with_builders.result) (sym c.requires.run) c.run_with_builders.ensures.ends)
+    (subst (λ q. Says q c.run_with_builders.result)
+    (sym c.requires.run) c.run_with_builders.ensures.ends)
 
 pub returns-clause-kept : goal.returns-clause-kept
 returns-clause-kept g c =

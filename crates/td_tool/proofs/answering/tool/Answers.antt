@@ -3,11 +3,13 @@ use Rattle.std.proofs.Common.{IfOk, codes, map, string_bytes, sym, subst}
 use Rattle.td_report.specs.Transition.{IsReportOf}
 use Rattle.td_words.specs.CheckWords.{AskForCheck}
 use Rattle.td_words.specs.CommandLine.{AskFor}
-use Rattle.td_tool.specs.FolderFiles.{AsksForPlan, AsksForRun, AsksForTrack, AsksForWaves}
+use Rattle.td_tool.specs.Desks.{EndsDesk, desk_files_asked}
+use Rattle.td_tool.specs.FolderFiles.{AsksForDesk, AsksForPlan, AsksForRun, AsksForTrack}
+use Rattle.td_tool.specs.FolderFiles.{AsksForWaves}
 use Rattle.td_tool.specs.CheckEnds.{CheckEnds}
 use Rattle.td_tool.specs.Ends.{Ends}
-use Rattle.td_tool.specs.Explained.{check_paths, known_at, known_input, plan_paths, run_paths}
-use Rattle.td_tool.specs.Explained.{track_paths, waves_paths}
+use Rattle.td_tool.specs.Explained.{check_paths, desk_paths, known_at, known_input, plan_paths}
+use Rattle.td_tool.specs.Explained.{run_paths, track_paths, waves_paths}
 use Rattle.td_tool.specs.Program.{OnlyIfAsked, files_asked, plan_files, waves_files}
 use Rattle.td_tool.specs.Program.{words_asked}
 use Rattle.td_tool.specs.Ran.{NoNotes, Ran}
@@ -96,12 +98,27 @@ returns-in-Ok-clause-run g c = λ w.
     c.args.words c.in-Ok.words c.deref.result.now c.in-Ok.is c.deref.ensures.value
     (c.answer.ensures.run w)
 
+pub returns-in-Ok-clause-desk : goal.returns-in-Ok-clause-desk
+returns-in-Ok-clause-desk g c = λ w.
+    of_given (λ l. AsksForDesk (g.T.Texts.can_be c.args.texts.now) l w) (λ b. Ran
+    (DueTo (g.R.Reader.can_fail c.args.reader.now) (g.W.Writer.can_fail c.args.output.now)
+    (EndsDesk (desk_files_asked (g.T.Texts.bytes c.args.texts.now)
+    (g.T.Texts.can_fail c.args.texts.now) w) (g.T.Desks.desks c.args.texts.now) w
+    (g.R.Read.remaining c.args.reader.now) (g.R.Read.remaining c.answer.new.reader)
+    (g.W.Write.contents c.args.output.now) (g.W.Write.contents c.answer.new.output)))
+    NoNotes b (known_at (g.T.Texts.bytes c.args.texts.now) (desk_paths w))
+    (g.E.Write.contents c.args.faults.now) (g.E.Write.contents c.answer.new.faults)
+    c.answer.result)
+    c.args.words c.in-Ok.words c.deref.result.now c.in-Ok.is c.deref.ensures.value
+    (c.answer.ensures.desk w)
+
 pub returns-in-Ok-clause-others : goal.returns-in-Ok-clause-others
 returns-in-Ok-clause-others g c =
     let known = g.R.Read.remaining c.args.reader.now in
     let left = g.R.Read.remaining c.answer.new.reader in
     let bytes = g.T.Texts.bytes c.args.texts.now in
     let can_fail = g.T.Texts.can_fail c.args.texts.now in
+    let desks = g.T.Desks.desks c.args.texts.now in
     let reads = g.R.Reader.can_fail c.args.reader.now in
     let writes = g.W.Writer.can_fail c.args.output.now in
     let old = g.W.Write.contents c.args.output.now in
@@ -110,10 +127,10 @@ returns-in-Ok-clause-others g c =
     let said = g.E.Write.contents c.answer.new.faults in
     subst (λ r. IfOk r (λ given.
     OnlyIfAsked (g.T.Texts.can_be c.args.texts.now) (map string_bytes given.items) known left bytes
-    can_fail reads writes old new before
+    can_fail desks reads writes old new before
     said
     c.answer.result)) (sym c.in-Ok.is)
     (subst (λ l.
     OnlyIfAsked (g.T.Texts.can_be c.args.texts.now) (map string_bytes l) known left bytes can_fail
-    reads writes old new before said
+    desks reads writes old new before said
     c.answer.result) c.deref.ensures.value c.answer.ensures.others)

@@ -17,7 +17,8 @@ explains-fault : (role : Role) (fault : InputFault) (text : List ℕ) (number : 
     → found ≡ Some (number, field) → found ≡ relation_of fault → label ≡ label_of role
     → name ≡ relation_field_name field → wanted ≡ wanted_input fault text
     → ExplainsRelation label number name wanted text line → IsFaultLine role fault text line
-explains-fault role fault text number field found label name wanted line some is labelled named asked
+explains-fault role fault text number field found label name wanted line some is labelled named
+    asked
     explains =
     subst (λ (o : Option (ℕ × RelationField)). IsLineWith o role fault text line) (sym some ∙ is)
     (subst (λ (w : List ℕ). ExplainsRelation (label_of role) number (relation_field_name field) w

@@ -24,6 +24,9 @@ returns-in-Err-clause-plan g c w asks = c.in-Err.ensures.memory asks.0.0
 pub returns-in-Err-clause-run : goal.returns-in-Err-clause-run
 returns-in-Err-clause-run g c w asks = c.in-Err.ensures.memory asks.0.0
 
+pub returns-in-Err-clause-desk : goal.returns-in-Err-clause-desk
+returns-in-Err-clause-desk g c w asks = c.in-Err.ensures.memory asks.0.0
+
 pub returns-in-Err-clause-said : goal.returns-in-Err-clause-said
 returns-in-Err-clause-said g c =
     which_unread (g.T.Texts.can_be c.args.texts.now) (map string_bytes c.args.words.now)
@@ -47,6 +50,10 @@ returns-in-Ok-clause-plan g c w asks =
 pub returns-in-Ok-clause-run : goal.returns-in-Ok-clause-run
 returns-in-Ok-clause-run g c w asks =
     c.read_words.ensures.run w (asks.0, asks.1 c.in-Ok.present c.in-Ok.ensures.found)
+
+pub returns-in-Ok-clause-desk : goal.returns-in-Ok-clause-desk
+returns-in-Ok-clause-desk g c w asks =
+    c.read_words.ensures.desk w (asks.0, asks.1 c.in-Ok.present c.in-Ok.ensures.found)
 
 pub returns-in-Ok-clause-said : goal.returns-in-Ok-clause-said
 returns-in-Ok-clause-said g c =

@@ -1,5 +1,6 @@
 -- `play_read`: how a script ends, by its bytes, and its clauses if none is read.
-use Rattle.std.proofs.Common.{◌≡◌, Bool, None, Result, Some, String, false, string_bytes, subst, sym}
+use Rattle.std.proofs.Common.{◌≡◌, Bool, None, Result, Some, String, false, string_bytes, subst}
+use Rattle.std.proofs.Common.{sym}
 use Rattle.std.proofs.Common.{true}
 use Rattle.std.specs.Prelude.{IfSome, MatchResult}
 use Rattle.std.specs.declared.alloc.Global.{Global}

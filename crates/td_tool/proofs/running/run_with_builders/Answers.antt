@@ -12,8 +12,10 @@ returns-in-Err-clause-ends g c =
 
 pub returns-clause-ends : goal.returns-clause-ends
 returns-clause-ends g c =
-    run_over_inputs _ _ c.in-Ok.inputs _ _ _ _ c.play_with_builders-ending.result c.in-Ok.ensures.inputs
-    (c.play_with_builders-ending.ensures.plays _ c.requires) c.play_with_builders-ending.ensures.told
+    run_over_inputs _ _ c.in-Ok.inputs _ _ _ _ c.play_with_builders-ending.result
+    c.in-Ok.ensures.inputs
+    (c.play_with_builders-ending.ensures.plays _ c.requires)
+    c.play_with_builders-ending.ensures.told
 
 pub returns-in-Err-clause-due : goal.returns-in-Err-clause-due
 returns-in-Err-clause-due g c =

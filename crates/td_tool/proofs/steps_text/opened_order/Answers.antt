@@ -9,7 +9,8 @@ use Rattle.td_tool.proofs.steps_text.opened_order.Goals as goal
 
 pub ordered-said-requires-clause-apart : goal.ordered-said-requires-clause-apart
 ordered-said-requires-clause-apart g c = λ k within.
-    (opened_planned c.args.opened (tracking c.in-Some.given.now.tracker) c.in_ok-rows_stand.ensures.0
+    (opened_planned c.args.opened (tracking c.in-Some.given.now.tracker)
+    c.in_ok-rows_stand.ensures.0
     c.requires.opened c.in_ok-rows_stand.ensures.1).sound.numbered
 
 pub returns : goal.returns

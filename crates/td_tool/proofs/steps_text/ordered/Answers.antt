@@ -20,7 +20,8 @@ returns-in-Steps g c =
     → ordered_of order a t rows (string_bytes said))) (sym c.in-Steps.is)
     (steps_told c.text.result a t why
     (IfOk-weaker c.text.result _ (λ said. why ≡ false → IsSteps a t (string_bytes said))
-    (λ said is. subst (λ (x : Contents). why ≡ false → IsSteps x t (string_bytes said)) at (is t of))
+    (λ said is.
+    subst (λ (x : Contents). why ≡ false → IsSteps x t (string_bytes said)) at (is t of))
     c.text.ensures.parts)
     (IfOk-weaker c.text.result _ (λ said. why ≡ true → IsStepsWhy a t (string_bytes said))
     (λ said is. subst (λ (x : Contents). why ≡ true → IsStepsWhy x t (string_bytes said)) at

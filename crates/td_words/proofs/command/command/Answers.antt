@@ -2,8 +2,8 @@
 use Rattle.std.proofs.Common.{◌≡◌}
 use Rattle.std.proofs.lemmas.Result.{IfOk-weaker}
 use Rattle.clap.specs.Simple.{app_of, with_subcommand}
-use Rattle.td_words.specs.CommandLine.{bare_desk, check_shape, desk_by, plan_shape, run_shape}
-use Rattle.td_words.specs.CommandLine.{simulate_shape, track_shape, waves_shape}
+use Rattle.td_words.specs.CommandLine.{bare_desk, check_shape, desk_by, desk_shape, plan_shape}
+use Rattle.td_words.specs.CommandLine.{run_shape, simulate_shape, track_shape, waves_shape}
 use Rattle.td_words.proofs.command.command.Goals as goal
 
 pub returns : goal.returns
@@ -14,6 +14,7 @@ returns c =
     let three = with_subcommand two (track_shape strict) in
     let four = with_subcommand three (waves_shape strict) in
     let five = with_subcommand four (plan_shape strict) in
+    let six = with_subcommand five (run_shape strict) in
     let of_one = IfOk-weaker c.with_part-whole.result _ (λ x. app_of x ≡ one)
     (λ x h. h bare_desk simulate_shape c.program.ensures c.simulate.ensures.shape
     c.simulate.ensures.globals) c.with_part-whole.ensures in
@@ -29,6 +30,9 @@ returns c =
     let of_five = IfOk-weaker c.with_part-whole-5.result _ (λ x. app_of x ≡ five)
     (λ x h. h four (plan_shape strict) of_four c.plan.ensures.shape c.plan.ensures.globals)
     c.with_part-whole-5.ensures in
-    IfOk-weaker c.with_part.result _ (λ x. app_of x ≡ desk_by strict)
+    let of_six = IfOk-weaker c.with_part-whole-6.result _ (λ x. app_of x ≡ six)
     (λ x h. h five (run_shape strict) of_five c.run.ensures.shape c.run.ensures.globals)
+    c.with_part-whole-6.ensures in
+    IfOk-weaker c.with_part.result _ (λ x. app_of x ≡ desk_by strict)
+    (λ x h. h six (desk_shape strict) of_six c.desk.ensures.shape c.desk.ensures.globals)
     c.with_part.ensures

@@ -11,9 +11,10 @@ use Rattle.td_words.specs.CommandLine.{HasFiles, HasRun, HasTrack, HasTracker, H
 use Rattle.td_words.specs.CommandLine.{is_explained, name_in, options_of, rows_in}
 use Rattle.td_words.specs.CheckWords.{HasCheck, check_said}
 use Rattle.td_words.specs.Folder.{folder_in, path_if, tracker_said}
+use Rattle.td_words.specs.DeskWords.{HasDesk}
 use Rattle.td_words.specs.PlanWords.{HasPlan, line_words_said}
-use Rattle.td_words.specs.Asked.{Asks, IsGivenBy, check_of, plan_of, report_of, request_words}
-use Rattle.td_words.specs.Asked.{run_of, waves_of}
+use Rattle.td_words.specs.Asked.{Asks, IsGivenBy, check_of, desk_of, plan_of, report_of}
+use Rattle.td_words.specs.Asked.{request_words, run_of, waves_of}
 use Rattle.td_words.specs.declared.request.Request.TheVariants.{Simulate}
 use Rattle.td_words.specs.declared.request.WordsFault.TheVariants.{NoMemory}
 use Rattle.td_words.proofs.Asking.{asks, flag_of_call, holds_of_call, only_memory, only_of_call}
@@ -254,3 +255,19 @@ pub returns-in-Err-clause-plan_lacking : goal.returns-in-Err-clause-plan_lacking
 returns-in-Err-clause-plan_lacking c archs packages sources folder asking has none given =
     memory_said _ _ (c.fault_of.ensures (only_memory _ (map string_bytes c.args.words.now)
     c.in-Err.error c.in_ok-command.ensures asking.0 c.in-Err.ensures.kinds))
+
+pub returns-in-Ok-clause-desk : goal.returns-in-Ok-clause-desk
+returns-in-Ok-clause-desk c w asking =
+    let m = c.in-Ok.matches in
+    let texts = map string_bytes c.args.words.now in
+    let rows = rows_are_asked _ m texts c.in_ok-command.ensures c.in-Ok.ensures.matches in
+    holds_of_call (λ r. request_words r ≡ desk_of w) (λ e. e ≡ NoMemory)
+    c.request_in.result c.is_explained_in.result
+    c.call_of.result c.call_of.ensures
+    (c.request_in.ensures.desk w (ap name_in rows ∙ asking.0.1)
+    (subst (λ o. HasDesk c.args.present (rows_in o) w) (sym rows) asking.1))
+
+pub returns-in-Err-clause-desk : goal.returns-in-Err-clause-desk
+returns-in-Err-clause-desk c w asking =
+    c.fault_of.ensures (only_memory _ (map string_bytes c.args.words.now) c.in-Err.error
+    c.in_ok-command.ensures asking.0.0 c.in-Err.ensures.kinds)

@@ -5,6 +5,7 @@ use Rattle.td_words.specs.CommandLine.{HasFiles, HasRun, HasTrack, HasTracker, H
 use Rattle.td_words.specs.Folder.{folder_in, path_if}
 use Rattle.td_words.specs.Asked.{IsUsage, track_said}
 use Rattle.td_words.specs.CheckWords.{HasCheck}
+use Rattle.td_words.specs.DeskWords.{HasDesk}
 use Rattle.td_words.specs.PlanWords.{HasPlan}
 use Rattle.td_words.proofs.Asking.{rows_of_matches}
 use Rattle.td_words.proofs.request.request_in.Goals as goal
@@ -100,3 +101,10 @@ returns-in-Some-6-clause-plan_lacking c archs packages sources folder named has 
     (subst (λ options. HasFiles options archs packages sources) rows has)
     (subst (λ options. path_if c.args.present.tracker (codes "tracker") options ≡ None) rows none)
     (subst (λ options. folder_in options ≡ Some folder) rows given)
+
+pub returns-in-Some-7-clause-desk : goal.returns-in-Some-7-clause-desk
+returns-in-Some-7-clause-desk c w named has =
+    c.desk_in.ensures.desk w
+    (subst (λ options. HasDesk c.args.present options w)
+    (rows_of_matches c.args.matches.now c.subcommand.result _ c.in-Some.is
+    c.subcommand.ensures.rows) has)

@@ -20,3 +20,11 @@ returns-in-CannotRead-clause-prefix g c =
 pub returns-in-CannotWrite-clause-whole : goal.returns-in-CannotWrite-clause-whole
 returns-in-CannotWrite-clause-whole g c =
     rw c.in-CannotWrite.is c.write_line-in-CannotWrite.ensures.whole
+
+pub returns-in-Locked-clause-whole : goal.returns-in-Locked-clause-whole
+returns-in-Locked-clause-whole g c =
+    rw c.in-Locked.is c.write_line-in-Locked.ensures.whole
+
+pub returns-in-CannotKeep-clause-whole : goal.returns-in-CannotKeep-clause-whole
+returns-in-CannotKeep-clause-whole g c =
+    rw c.in-CannotKeep.is c.write_line-in-CannotKeep.ensures.whole

@@ -1,7 +1,7 @@
 -- `waves_in`: the clauses `waves` and `lacking`, if memory runs out for the files.
 use Rattle.std.proofs.lemmas.Result.{err_from_is_err_and}
 use Rattle.td_words.proofs.Asking.{memory_said}
-use Rattle.td_words.proofs.request.waves_in.Goals as goal
+use Rattle.td_words.proofs.waves_words.waves_in.Goals as goal
 
 pub returns-in_err-archive_in-clause-waves : goal.returns-in_err-archive_in-clause-waves
 returns-in_err-archive_in-clause-waves c w has =

@@ -1,0 +1,2 @@
+-- What the contracts of these tests cite: a file a thing.
+pub mod Places
