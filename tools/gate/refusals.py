@@ -104,10 +104,15 @@ def forms_of(command):
     return ((), ("--builders", "1")) if command == "run" else ((),)
 
 
+# Which refusals each subcommand has told without an explanation.
+TOLD = set()
+
+
 def by_each(runs, name, role, path, said):
     """A file is refused, and explained, by each subcommand that reads its role; by `run` without
-    and with a builder, where standard input is a folder, and where it is a script."""
-    script = runs.put("script", "row te amd64\n")
+    and with a builder, where standard input is a folder, and where it is a script. Each refusal is
+    also told once without an explanation."""
+    script, line = runs.put("script", "row te amd64\n"), said.splitlines(keepends=True)[0]
     for command in COMMANDS:
         if role not in cases.READ_BY[command]:
             continue
@@ -116,6 +121,10 @@ def by_each(runs, name, role, path, said):
             for given in (None, script) if command == "run" else (None,):
                 what = f"{name}, explained by {' '.join((command, *others))}"
                 runs.compare(what, runs.end(words, given), 2, stderr=said)
+            if (command, others, line) not in TOLD:
+                TOLD.add((command, others, line))
+                found = runs.end(words_of(command, {role: path}, *others))
+                runs.compare(f"{name}, refused by {' '.join((command, *others))}", found, 2, stderr=line)
 
 
 def made(runs):
@@ -145,7 +154,32 @@ def journals(runs):
         said = case.read("stderr") + f"journal: {why}\n".encode()
         runs.compare(f"the journal of {name}, explained", found, 2, stderr=said)
         found = runs.end([*case.words(), "--explain", "--builders", "1"], case.input())
-        runs.compare(f"the journal of {name} beside a builder", found, 2, stderr=said)
+        runs.compare(f"the journal of {name} beside a builder, explained", found, 2, stderr=said)
+        found = runs.end([*case.words(), "--builders", "1"], case.input())
+        runs.compare(f"the journal of {name} beside a builder", found, 2, stderr=case.read("stderr"))
+    words = ["run", *cases.options(cases.archive("foobar")), "--explain", "--builders", "1"]
+    for line in ("2 - claim=1 foo/amd64", "2 + bp=5 zz/amd64"):
+        path = runs.put("made", f"transdesk journal 2\n1 + nmu foo/amd64\n{line}\n")
+        found = runs.end([*words, f"--journal={path}"])
+        said = said_of("journal", "Unlawful", f'journal: line 3 has "{line}"; wanted: {entry}')
+        runs.compare(f"a journal with {line} beside a builder, explained", found, 2, stderr=said)
+
+
+def outcomes(runs):
+    """Lines of outcomes with nothing after the key, with keys or outcomes that are none, with other marks,
+    and with a text that only a wait may have. A byte order mark may also be the file's first character."""
+    words = ["run", *cases.options(cases.archive("foobar")), "--explain", "--builders", "1"]
+    marked = "\ufefffoo/amd64 built"
+    lines = ("foo/amd64 ", "foo/amd64/x built", "/amd64 built", "foo/ built", "foo_1.2-3/amd64 built", marked,
+             "foo/amd64\tbuilt", "  ", "foo/amd64 failed", "foo/amd64 waits: libx", "foo/amd64 waits :",
+             "foo/amd64 attempted : libx", "foo/amd64 givenback : libx", "foo/amd64 built # libx")
+    for at, text, line in ((1, marked, marked), *((2, f"foo/amd64 built\n{line}", line) for line in lines)):
+        path = runs.put("made", f"{text}\n")
+        found = runs.end([*words, f"--outcomes={path}"])
+        shown = line.replace("\t", "\\x09")
+        why = f'outcomes: line {at} has "{shown}"; wanted: how a build ends, as KEY OUTCOME'
+        what = f"outcomes with {shown} on line {at}"
+        runs.compare(what, found, 2, stderr=said_of("outcomes", "BadLine", why))
 
 
 def long_texts(runs):
@@ -397,12 +431,14 @@ def unspoken(runs):
             for others in forms_of("run"):
                 found = runs.end(words_of("run", {}, "--explain", *others), script, stdout=full)
                 runs.compare("run --explain to a full disk", found, 5, stderr=UNWRITTEN)
+            found = runs.end(["simulate", "--explain"], runs.put("steps", ""), stdout=full)
+            runs.compare("simulate --explain to a full disk", found, 5, stderr=UNWRITTEN)
     for words in (["simulate"], *(words_of("run", {}, *others) for others in forms_of("run"))):
         found = runs.end([*words, "--explain"])
         runs.compare(f"{words[0]} --explain of a folder", found, 5, stderr=UNREAD)
 
 
 def run_all(runs):
-    for group in (made, packed, odd_paths, journals, long_texts, not_read, missing, first_of_two,
-                  of_the_wrong_kind, strange_rows, refused_beside_scripts, unspoken):
+    for group in (made, packed, odd_paths, journals, outcomes, long_texts, not_read, missing,
+                  first_of_two, of_the_wrong_kind, strange_rows, refused_beside_scripts, unspoken):
         group(runs)

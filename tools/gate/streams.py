@@ -34,6 +34,31 @@ def not_read(runs):
     runs.compare("a script that is no text", runs.end(FOOBAR, NO_TEXT), 2, stderr=said)
 
 
+def not_read_beside_files(runs):
+    """A script that can't be read, is too long or no text, with each option of a run; a fault of the
+    journal comes before."""
+    too_long = runs.put("too-long", b"\n" * (MOST + 1))
+    files = {"tracker": runs.put("affects-nothing", AFFECTS_NOTHING)}
+    for role, text in (("state", "bar/amd64 Failed 0 0\n"), ("outcomes", "foo/amd64 built\n"),
+                       ("journal", "transdesk journal 2\n1 + nmu foo/amd64\n")):
+        files[role] = runs.put(f"fit-{role}", text)
+    bad = {fault: runs.put(fault, f"transdesk journal 2\n1 + {entry} foo/amd64\n")
+           for fault, entry in (("BadLine", "x"), ("Unlawful", "gb"))}
+    for others in ((), ("--builders", "1")):
+        words = [*FOOBAR, "--suite", "sid", *others]
+        for what, script, status, said in (
+            ("a script that can't be read", runs.room, 5, UNREAD),
+            ("a script too long", too_long, 2, TOO_LONG),
+            ("a script that is no text", NO_TEXT, 2, said_of("input", "NotText")),
+        ):
+            found = runs.end([*words, *cases.options(files)], script)
+            runs.compare(f"{what}, with all options of a run", found, status, stderr=said)
+        for fault, path in bad.items():
+            found = runs.end([*words, f"--journal={path}"], too_long)
+            runs.compare(f"a journal that is {fault}, and a script too long", found, 2,
+                         stderr=said_of("journal", fault))
+
+
 def breaks_off(runs):
     """A terminal can be read up to where its other end was closed."""
     if not os.path.exists("/dev/ptmx"):
@@ -152,6 +177,6 @@ def in_a_block(runs):
 
 
 def run_all(runs):
-    for group in (not_read, breaks_off, full_disk, closed_pipe, lengths, trackers, by_hand,
-                  in_a_block):
+    for group in (not_read, not_read_beside_files, breaks_off, full_disk, closed_pipe, lengths,
+                  trackers, by_hand, in_a_block):
         group(runs)

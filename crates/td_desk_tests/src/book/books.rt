@@ -400,7 +400,22 @@ entry 1 => 1 + nmu foo/amd64 ;24 libbar-dev (>= 2.0-1+b1) : Rebuild
 undo 1 => Err(Blocked(4))
 ";
 
-const FREED: [Played<'static>; 2] = [
+const UPLOADED_MEANWHILE: &str = "\
+bar/amd64 Uploaded 0 1
+foo/amd64 Dep-Wait 0 1 : libbar-dev (>= 2.0-1+b1)
+foo/i386 Needs-Build 0 1
+";
+
+const SWEPT_MEANWHILE: &str = "\
+claim 1 foo/i386 => true
+start 1 => foo/i386 1.2-3+b1 1 ()
+arrive bar/amd64 => Ok(2)
+sweep => Ok(Some(3))
+row foo/amd64 => foo/amd64 Needs-Build 0 1
+finish 1 built => Ok(4)
+";
+
+const FREED: [Played<'static>; 3] = [
     (
         UPLOADED,
         SWEPT,
@@ -417,6 +432,15 @@ const FREED: [Played<'static>; 2] = [
          2 + dw foo/amd64 : libbar-dev (>= 2)\n\
          3 + arrive bar/amd64\n\
          4 + sweep foo/amd64\n",
+    ),
+    (
+        UPLOADED_MEANWHILE,
+        SWEPT_MEANWHILE,
+        "transdesk journal 2\n\
+         1 + claim=1 foo/i386\n\
+         2 + arrive bar/amd64\n\
+         3 + sweep foo/amd64\n\
+         4 + built=1 foo/i386\n",
     ),
 ];
 
