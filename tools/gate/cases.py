@@ -24,6 +24,7 @@ READ_BY = {
     "waves": (*INDICES, "tracker"),
     "plan": (*INDICES, "state", "tracker"),
     "run": (*INDICES, "state", "tracker", "journal", "outcomes"),
+    "desk": (*INDICES, "state", "tracker"),
 }
 # The program of this checkout, and the one that a gate has built.
 LAUNCHED, BUILT = f"{TOP}/transdesk", f"{TOP}/crates/transdesk/out/transdesk"
@@ -96,7 +97,7 @@ class Case:
 
     def input(self):
         """The path of standard input."""
-        part = {"simulate": "input", "run": "script"}.get(self.command)
+        part = {"simulate": "input", "run": "script", "desk": "script"}.get(self.command)
         return self.path(part) if part else os.devnull
 
     def builders(self):
