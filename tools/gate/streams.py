@@ -2,12 +2,14 @@
 
 import os
 import resource
+import select
 import signal
+import subprocess
 import tty
 
 import cases
 from refusals import AFFECTS_NOTHING, NO_TEXT, WAVES, said_of, words_of
-from runs import TOO_LONG, UNREAD, UNWRITTEN
+from runs import SECONDS, TOO_LONG, UNREAD, UNWRITTEN
 
 FOOBAR = ["run", *cases.options(cases.archive("foobar"))]
 SIMULATED = cases.Case("simulate", "first-undo").path("input")
@@ -150,6 +152,43 @@ def by_hand(runs):
     runs.compare("a suite that isn't the desk's", found, 1, b"refused: UnknownSuite\n")
 
 
+def heard(stream, count):
+    """So many lines of a stream, or what came of them in a minute."""
+    text = b""
+    while text.count(b"\n") < count and select.select([stream], [], [], SECONDS)[0]:
+        part = os.read(stream.fileno(), MOST)
+        if not part:
+            break
+        text += part
+    return text
+
+
+def in_turn(runs):
+    """Who writes to a desk only what its answers ask for: each whole line is answered before more
+    is read, also lines that come in one piece, and a line that comes in two. What an answer tells is
+    in the file by then."""
+    case = cases.Case("desk", "first-session")
+    path = f"{runs.room}/in-turn"
+    words = [runs.program, *case.words(), f"--journal={path}"]
+    turns = ((b"nmu foo . i386\n", 1, b"1 nmu foo/i386\n"), (b"claim 1 fo", 0, b"1 nmu foo/i386\n"),
+             (b"o i386\n", 1, b"2 claim=1 foo/i386\n"),
+             (b"finish 1 built\nready\n", 2, b"3 built=1 foo/i386\n"))
+    answers = [b"entry 1 takes foo/i386\n", b"", b"entry 2 builds foo/i386 1.2-3+b2 2\n",
+               b"entry 3 takes foo/i386\nnothing to build\n"]
+    pipes = {"stdin": subprocess.PIPE, "stdout": subprocess.PIPE, "stderr": subprocess.PIPE}
+    with subprocess.Popen(words, bufsize=0, **pipes) as desk:
+        for (line, count, kept), answer in zip(turns, answers):
+            desk.stdin.write(line)
+            if heard(desk.stdout, count) != answer:
+                runs.differs(f"a desk in turn: the answer to {line}")
+                desk.kill()
+                break
+            if not cases.read(path).endswith(kept):
+                runs.differs(f"a desk in turn: the file after {line}")
+        said = desk.communicate(timeout=SECONDS)
+    runs.compare("a desk in turn", (desk.returncode, *said), 0)
+
+
 def limited():
     """A file may have a block from here on, and a write beyond it is refused."""
     signal.signal(signal.SIGXFSZ, signal.SIG_IGN)
@@ -178,5 +217,5 @@ def in_a_block(runs):
 
 def run_all(runs):
     for group in (not_read, not_read_beside_files, breaks_off, full_disk, closed_pipe, lengths,
-                  trackers, by_hand, in_a_block):
+                  trackers, by_hand, in_turn, in_a_block):
         group(runs)
