@@ -8,9 +8,11 @@ import os
 import cases
 from runs import TOO_LONG, UNREAD, UNWRITTEN
 
-COMMANDS = ("check", "track", "waves", "plan", "run")
+COMMANDS = ("check", "track", "waves", "plan", "run", "desk")
+# The file of desks. Each other file is judged before, so that it isn't made.
+DESK = "refused.desk"
 # The words that a subcommand needs besides its files.
-NEEDED = {"plan": ["--message=x"]}
+NEEDED = {"plan": ["--message=x"], "desk": [f"--journal={DESK}"]}
 WAVES = cases.archive("waves", cases.OF_ARCHIVE)
 # A text that isn't UTF-8.
 NO_TEXT = cases.Case("simulate", "latin-1").path("input")
@@ -341,6 +343,7 @@ def first_of_two(runs):
         ("track", (*cases.INDICES, "state", "tracker")),
         ("plan", (*cases.INDICES, "state", "tracker")),
         ("run", (*cases.INDICES, "state", "tracker", "outcomes", "journal")),
+        ("desk", (*cases.INDICES, "state", "tracker")),
     ):
         for at, first in enumerate(roles):
             for second in roles[at:]:
@@ -372,7 +375,7 @@ def strange_rows(runs):
     lines = "\nte/amd64 Failed 0 0\nzz/amd64 Installed 0 0\naa/amd64 Installed 0 0\n"
     strangers = runs.put("strangers", lines)
     refused = said_of("state", "NoSuchRow")
-    for command in ("track", "plan"):
+    for command in ("track", "plan", "desk"):
         found = runs.end(words_of(command, {"state": strange}))
         runs.compare(f"a row that the archive of {command} hasn't", found, 2, stderr=refused)
     why = 'state: line 3 has "zz/amd64 Installed 0 0"; wanted: a row that the indices give\n'
@@ -442,3 +445,5 @@ def run_all(runs):
     for group in (made, packed, odd_paths, journals, outcomes, long_texts, not_read, missing,
                   first_of_two, of_the_wrong_kind, strange_rows, refused_beside_scripts, unspoken):
         group(runs)
+    if os.path.exists(f"{runs.room}/{DESK}"):
+        runs.differs("a desk's file is made though another file is refused")
