@@ -5,6 +5,7 @@ is taken before the folder's file, and what a folder lacks is refused.
 """
 
 import os
+import shutil
 
 import cases
 from runs import NOTHING
@@ -61,6 +62,19 @@ def from_folders(runs):
                 runs.compare(f"{command} of {case.name} by {how}", found, *case.wanted())
 
 
+def desks_from_folders(runs):
+    """Each desk over a folder of its files, which has the desk's own as `journal`, or gets it."""
+    for case in cases.cases("desk"):
+        folder = folder_of(runs, f"desk.{case.name}", case.files())
+        file = f"{folder}/journal"
+        if case.has("journal"):
+            shutil.copy(case.path("journal"), file)
+        found = runs.end(["desk", f"--folder={folder}", *values_of(case)], case.input())
+        runs.compare(f"desk of {case.name} by a folder", found, *case.wanted())
+        if cases.read(file) != case.read("kept"):
+            runs.differs(f"desk of {case.name} by a folder: its file")
+
+
 def refused(runs, what, words, status, said):
     runs.compare(what, runs.end(words), status, NOTHING, said)
 
@@ -70,7 +84,7 @@ def lacking(runs):
     archive = cases.archive("waves", cases.OF_ARCHIVE)
     none = f"{runs.room}/none"
     bare = folder_of(runs, "bare", cases.archive("waves"))
-    for command in COMMANDS:
+    for command in (*COMMANDS, "desk"):
         needed = NEEDED.get(command, [])
         refused(runs, f"{command}: no folder", [command, f"--folder={none}", *needed, "--explain"], 5,
                 f'transdesk: archs: cannot read\narchs: "{none}/archs" isn\'t there; '
@@ -83,6 +97,8 @@ def lacking(runs):
                     f'{role}: "{folder}/{role}" isn\'t there; '
                     "wanted: the path of a file that is there\n")
             refused(runs, f"{command}: no {role} in the folder", words, 5, said.encode())
+            if os.path.lexists(f"{folder}/journal"):
+                runs.differs(f"{command}: no {role} in the folder, but a journal is made")
         if command in ("track", "waves", "plan"):
             words = [command, f"--folder={bare}", *needed]
             refused(runs, f"{command}: no tracker in the folder", words, 3, NO_TRACKER)
@@ -93,4 +109,5 @@ def lacking(runs):
 
 def run_all(runs):
     from_folders(runs)
+    desks_from_folders(runs)
     lacking(runs)
