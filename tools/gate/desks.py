@@ -17,11 +17,12 @@ LATER = (b"2 claim=1 foo/i386\n", b"2 nmu bar/amd64 ;16 libbar-dev (>= 2) : it i
 
 
 def fronts(line):
-    """Each front of a line that lacks its newline at least, and the front with zero bytes after it, one
-    and as many as the line still had."""
+    """Each front of a line that lacks its newline at least, and every fourth with zero bytes after it, one
+    or as many as the line still had."""
     for length in range(len(line)):
-        for zeros in {0, 1, len(line) - length}:
-            yield line[:length] + bytes(zeros)
+        yield line[:length]
+        if length % 4 == 0:
+            yield line[:length] + bytes(1 if length % 8 else len(line) - length)
 
 
 def torn(runs, name, whole, line):
