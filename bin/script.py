@@ -3,6 +3,7 @@
 A script's `main(words)` returns its exit status or raises a `Fault`; `run(main, __doc__)` ends it.
 """
 
+import contextlib
 import errno
 import os
 import shutil
@@ -119,6 +120,8 @@ def replace(path, text):
         finally:
             os.close(folder)
     except OSError as why:
+        with contextlib.suppress(OSError):
+            os.unlink(f"{path}.new")
         raise Fault(f"{path}: {why.strerror}", 5) from why
 
 
@@ -136,7 +139,7 @@ def _ended(main, about):
     except OSError as why:
         # (standard output; nobody reads what is left, or there is no room for it)
         if why.errno != errno.EPIPE:
-            say(f"standard output: {why.strerror}")
+            say(f"{why.filename or 'standard output'}: {why.strerror}")
         return 5
     except KeyboardInterrupt:
         return 130
