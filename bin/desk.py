@@ -105,11 +105,11 @@ def run(files, lines):
     return answers
 
 
-def _fault(status, said):
+def _fault(status, said, place="it"):
     """How the program failed, as a fault of the script."""
     text = said.decode(errors="replace").strip()
     if text == "transdesk: journal: Locked":
-        return Fault("another desk is at work there", 6)
+        return Fault(f"{place}: another desk is at work there", 6)
     return Fault(text or f"transdesk ended with status {status}", status if status > 1 else 70)
 
 
@@ -120,6 +120,7 @@ class Desk:
     """
 
     def __init__(self, files, journal, wait=False):
+        self.place = os.path.dirname(journal) or "."
         self.command = [*options(files), f"--journal={journal}", *(["--wait"] if wait else [])]
 
     def __enter__(self):
@@ -150,7 +151,7 @@ class Desk:
         while True:
             got = self.process.stdout.readline()
             if not got.endswith(b"\n"):
-                raise _fault(self.process.wait(), self.process.stderr.read())
+                raise _fault(self.process.wait(), self.process.stderr.read(), self.place)
             got = got[:-1].decode()
             # (a line may itself be one that no desk has; only `rows` may have no answer)
             if got == MARKED and (answer or line == "rows"):
