@@ -21,10 +21,11 @@ class Fault(Exception):
         self.status = status
 
 
-def say(text):
-    """Says a line on standard error."""
+def say(text, name=f"{NAME}: "):
+    """Says a line on standard error; what can't be written there is left out."""
     if sys.stderr is not None:
-        print(f"{NAME}: {text}", file=sys.stderr)
+        with contextlib.suppress(OSError):
+            os.write(sys.stderr.fileno(), f"{name}{text}\n".encode(errors="replace"))
 
 
 def tell(text):
@@ -129,7 +130,7 @@ def _ended(main, about):
     """The status with which a script ends."""
     words = sys.argv[1:]
     if "--help" in words or "-h" in words:
-        print(about.strip(), file=sys.stderr)
+        say(about.strip(), "")
         return 3
     try:
         return main(words)

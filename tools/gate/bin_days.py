@@ -28,8 +28,8 @@ def read(path):
 
 
 def archive(folder, sources, built, archs=("amd64",), **files):
-    """A folder of indices. `sources` has their versions, `built` the versions of what is built: of a
-    source, or of a key. `files` are more files of the folder, by their names."""
+    """A folder of indices. `sources` has their versions, `built` the versions of what is built, by
+    source or by key. `files` are more files of the folder, by their names."""
     os.makedirs(folder, exist_ok=True)
     table, packages, stanzas = "", "", ""
     for arch in archs:
@@ -39,8 +39,8 @@ def archive(folder, sources, built, archs=("amd64",), **files):
         for arch in archs:
             found = built.get(f"{source}/{arch}", built.get(source))
             if found:
-                packages += f"Package: {source}-bin\nSource: {source} ({version})\nVersion: {found}\n"
-                packages += f"Architecture: {arch}\n\n"
+                packages += f"Package: {source}-bin\nSource: {source} ({version})\n"
+                packages += f"Version: {found}\nArchitecture: {arch}\n\n"
     for name, text in {"archs": table, "packages": packages, "sources": stanzas, **files}.items():
         write(f"{folder}/{name}", text)
     return folder
@@ -98,8 +98,8 @@ def said(*lines):
 
 def outcomes(days):
     """Each outcome, of rows that were asked for and of others."""
-    names = "arrived behind extra failed free greater held leaves moved never odd prior same undone waits"
-    old = dict.fromkeys(names.split(), "1.0-1") | {"odd": "1.0+b1"}
+    names = "arrived behind extra failed free greater held leaves moved never odd prior same undone"
+    old = dict.fromkeys([*names.split(), "waits"], "1.0-1") | {"odd": "1.0+b1"}
     state = "failed/amd64 Failed 0 0\nnever/amd64 Not-For-Us 0 0\nheld/amd64 Uploaded 0 1\n"
     installed = {name: version for name, version in old.items() if name != "never"}
     folder = archive(days.folder("old"), old, installed, state=state)
@@ -191,8 +191,8 @@ def decisions(days):
 
 
 def chain(days):
-    """Four days: what is asked for on the first is told of until it is done, also a gb, which leaves no
-    trace in the rows."""
+    """Five days: what is asked for on the first is told of until it is done, and so is a gb, which
+    leaves no trace in the rows."""
     archs = ("amd64", "i386")
     sources = {"aa": "1", "bb": "1", "cc": "1"}
     first = {"aa": "1", "bb/amd64": "1"}
@@ -215,8 +215,8 @@ def chain(days):
         "aa/i386 was Dep-Wait 1: the new indices have no such row",
         "rows that are gone, and were as the old indices have them: 2",
     )
-    # (aa+b1 is in day 4's indices, and not in day 5's)
-    days.next("an architecture leaves", "day-4", "day-5", "aa/i386 gone\n", "aa/amd64 Installed 0 1\n", err)
+    # (aa/amd64 is +b1 in day 4's indices, and not in day 5's, which are right)
+    days.next("an architecture leaves", "day-4", "day-5", "aa/i386 gone\n", "", err)
 
 
 def builders(days):
@@ -279,11 +279,11 @@ def refusals(days):
     with held(f"{old}/journal"):
         refused("a locked desk", [old, new], 6, f"{old}: another desk is at work there")
     for name, text, err in (
-        ("journal", "x\n", "transdesk: journal: BadHeader"),
-        ("state", "aa/amd64 Building=1 0 0\n", "transdesk: state: NotOpening"),
-        ("state", "aa/amd64 Waiting 0 0\n", "transdesk: state: BadLine"),
-        ("state", "aa/amd64 Failed 0 0\n", "transdesk: journal: OtherRows"),
-        ("packages", "x\n", "transdesk: packages: Stanza"),
+        ("journal", "x\n", f"{other}: journal: BadHeader"),
+        ("state", "aa/amd64 Building=1 0 0\n", f"{other}: state: NotOpening"),
+        ("state", "aa/amd64 Waiting 0 0\n", f"{other}: state: BadLine"),
+        ("state", "aa/amd64 Failed 0 0\n", f"{other}: journal: OtherRows"),
+        ("packages", "x\n", f"{other}: packages: Stanza"),
         ("asked", b"\xff", f"{other}/asked: byte 0 is no text (UTF-8)"),
     ):
         shutil.copytree(old, other)
@@ -306,17 +306,13 @@ def disks(days):
         runs.case("next-desk: a full disk", ["next-desk", old, new], "", 5, "", err)
         if os.path.lexists(f"{new}/state"):
             runs.differs("next-desk: a full disk", "no state", os.listdir(new))
-    for how, err in ((">/dev/full", said("standard output: No space left on device")), ("| true", "")):
-        new = archive(days.folder(f"to {how[-4:]}"), {"aa": "1"}, {"aa": "1"})
-        # (the pipe is closed before the script writes)
-        command = f'{{ sleep 0.2; "$0" "$@"; }} {how}; echo ${{PIPESTATUS[0]}} >&2'
-        words = ["bash", "-c", command, f"{runs.top}/bin/next-desk", old, new]
-        done = subprocess.run(words, env=runs.world, capture_output=True)
-        runs.ran += 1
-        found = (done.stderr.decode(), read(f"{new}/state"), read(f"{new}/asked"))
-        wanted = (f"{err}5\n", "aa/amd64 Needs-Build 0 1\n", "aa/amd64 waiting Needs-Build\n")
+    for way in runs.unread("next-desk"):
+        new = archive(days.folder(f"to {way.name}"), {"aa": "1"}, {"aa": "1"})
+        runs.into(way, ["next-desk", old, new], b"")
+        found = (read(f"{new}/state"), read(f"{new}/asked"))
+        wanted = ("aa/amd64 Needs-Build 0 1\n", "aa/amd64 waiting Needs-Build\n")
         if found != wanted:
-            runs.differs(f"next-desk {how}", wanted, found)
+            runs.differs(f"next-desk into {way.name}", wanted, found)
 
 
 def many(days):
@@ -330,7 +326,8 @@ def many(days):
     took = time.monotonic() - begun
     days.runs.ran += 1
     lines = done.stdout.decode().splitlines()
-    counts = [sum(line.endswith(end) for line in lines) for end in (" done", " waiting Needs-Build")]
+    ends = (" done", " waiting Needs-Build")
+    counts = [sum(line.endswith(end) for line in lines) for end in ends]
     if counts != [10_000, 10_000] or took > SECONDS:
         days.runs.differs("next-desk: 20,000 rows", "half of them done, in time", (counts, took))
 

@@ -4,7 +4,6 @@ The table of states and the answers are worked out by hand, from the manual page
 """
 
 import os
-import subprocess
 import tempfile
 import time
 
@@ -16,8 +15,8 @@ SHORT = {
     "DW": "Dep-Wait", "BD": "BD-Uninstallable", "BA": "Build-Attempted", "Fa": "Failed",
     "NF": "Not-For-Us",
 }
-# What a call leaves: by the desk's state (a line) and wanna-build's (a column). Of what has a mark !
-# it is said that no line leads there. Ow is Building by a builder of follow's, Bg by another.
+# What a call leaves: by the desk's state (a line) and wanna-build's (a column). Of what has a mark
+# `!` it is said that no line leads there. Ow is Building by a builder of follow's, Bg by another.
 TABLE = """
      NB   Bg   Bt   Up   In   DW   BD   BA   Fa   NF
 NB   NB   Ow   Bt   Bt   In   DW   NB!  BA   BA   NB!
@@ -42,6 +41,11 @@ def stays(key, state, why):
     return f"{key} stays {state}: wanna-build has it {why}"
 
 
+def other(key, state, there, version):
+    why = f"{there} in version {version}, and the desk's indices have another"
+    return stays(key, state, why)
+
+
 def rows_of(runs, folder):
     """The states and numbers of a desk's rows, by their keys."""
     rows = [line.split(" ") for line in desk(runs, folder, "rows").splitlines()]
@@ -55,7 +59,7 @@ class Room:
         self.runs, self.path = runs, path
 
     def desk(self, name, sources, *lines, **files):
-        """A desk over sources that are built, with their versions, to which these lines are given."""
+        """A desk over sources that are built, to which these lines are given."""
         folder = archive(f"{self.path}/{name}", sources, sources, **files)
         return folder, desk(self.runs, folder, *lines)
 
@@ -67,8 +71,9 @@ class Room:
             kept = read(f"{folder}/journal")
             words = ["follow", folder, *more]
             self.runs.case(f"follow: {what}, again", words, csv, 0, "", err)
-            if read(f"{folder}/journal") != kept:
-                self.runs.differs(f"follow: {what}, again: the journal", kept, read(f"{folder}/journal"))
+            found = read(f"{folder}/journal")
+            if found != kept:
+                self.runs.differs(f"follow: {what}, again: the journal", kept, found)
 
 
 def table(room):
@@ -134,7 +139,7 @@ def lines(room):
         "entry 9 takes ee/amd64\n"
         "entry 10 builds aa/amd64 1+b1 1\n"
     )
-    bb = stays("bb/amd64", "Needs-Build 1", "Building in version 2, and the desk's indices have another")
+    bb = other("bb/amd64", "Needs-Build 1", "Building", "2")
     dd = stays("dd/amd64", "Building=64 1", "Built, and builder 64 isn't one of follow's")
     ff = stays("ff/amd64", "Installed 0", "Failed-Removed: the desk has no such state")
     room.follow("some lines", folder, csv, out, said(bb, dd, ff))
@@ -144,23 +149,23 @@ def lines(room):
     bb = stays("bb/amd64", "Needs-Build 1", "Uploaded under number 2")
     room.follow("another number", folder, csv, "", said(bb, dd, ff))
     csv = csv.replace("aa,amd64,1,Building,1,", "aa,amd64,1.1,Needs-Build,,")
-    aa = stays("aa/amd64", "Needs-Build 1", "Needs-Build in version 1.1, and the desk's indices have another")
-    room.follow("a claim on another version", folder, csv, "entry 11 takes aa/amd64\n", said(aa, bb, dd, ff))
+    err = said(other("aa/amd64", "Needs-Build 1", "Needs-Build", "1.1"), bb, dd, ff)
+    room.follow("a claim on another version", folder, csv, "entry 11 takes aa/amd64\n", err)
     given = (HEADER + csv).replace("\n", "\r\n").encode()
-    room.follow("CRLF", folder, given, "", said(aa, bb, dd, ff))
-    room.follow("a byte order mark", folder, b"\xef\xbb\xbf" + given, "", said(aa, bb, dd, ff))
+    room.follow("CRLF", folder, given, "", err)
+    room.follow("a byte order mark", folder, b"\xef\xbb\xbf" + given, "", err)
 
 
 def waits(room):
     """What a row waits for has to be a relation."""
-    texts = {"aa": "", "bb": "libx (> 2)", "cc": '"libx ""a"""', "dd": '"libx,\n liby"', "ee": "a'b"}
+    texts = {"aa": "", "bb": "libx (> 2)", "cc": '"libx ""a"""', "dd": '"libx,\n liby"'}
+    texts["ee"] = "a'b"
     folder, _ = room.desk("waits", dict.fromkeys(texts, "1"), "nmu aa bb cc dd ee . ANY")
     csv = "".join(f"{name},amd64,1,Dep-Wait,1,{text}\n" for name, text in texts.items())
     shown = {"aa": "it is empty", "bb": "libx (> 2)", "cc": 'libx "a"', "ee": "a'b"}
-    err = said(*[
-        stays(f"{name}/amd64", "Needs-Build 1", f"Dep-Wait, and what it waits for is no relation: {text}")
-        for name, text in shown.items()
-    ])
+    why = "Dep-Wait, and what it waits for is no relation: "
+    rows = {f"{name}/amd64": why + text for name, text in shown.items()}
+    err = said(*[stays(key, "Needs-Build 1", why) for key, why in rows.items()])
     out = "entry 2 builds dd/amd64 1+b1 1\nentry 3 takes dd/amd64\n"
     room.follow("dep-waits", folder, csv, out, err)
     row = desk(room.runs, folder, "row dd amd64")
@@ -199,7 +204,8 @@ def builders(room):
     names = [f"s{number:02}" for number in range(1, 66)]
     folder, _ = room.desk("builders", dict.fromkeys(names, "1"), f"nmu {' '.join(names)} . ANY")
     csv = "".join(f"{name},amd64,1,Building,1,\n" for name in names)
-    out = "".join(f"entry {n + 2} builds {name}/amd64 1+b1 1\n" for n, name in enumerate(names[:64]))
+    first = enumerate(names[:64], 2)
+    out = "".join(f"entry {number} builds {name}/amd64 1+b1 1\n" for number, name in first)
     last = stays("s65/amd64", "Needs-Build 1", "Building, and no builder is free")
     room.follow("65 builds", folder, csv, out, said(last))
     csv = csv.replace("s64,amd64,1,Building", "s64,amd64,1,Built")
@@ -208,7 +214,8 @@ def builders(room):
     # A builder that nobody knows of has each row now: what was noted is lost.
     os.unlink(f"{folder}/followed")
     csv = csv.replace("s01,amd64,1,Building", "s01,amd64,1,Installed")
-    err = said(stays("s01/amd64", "Building=64 1", "Installed, and builder 64 isn't one of follow's"))
+    why = "Installed, and builder 64 isn't one of follow's"
+    err = said(stays("s01/amd64", "Building=64 1", why))
     room.follow("claims that are lost", folder, csv, "", err)
     # A call that was cut off after a claim: the claim was noted before.
     folder, _ = room.desk("cut", {"aa": "1"}, "nmu aa . ANY", "claim 64 aa amd64")
@@ -247,9 +254,9 @@ def refusals(room):
     with held(f"{folder}/journal"):
         refused("a locked desk", [folder], right, 6, f"{folder}: another desk is at work there")
     write(f"{folder}/state", "aa/amd64 Failed 0 0\n")
-    refused("another state", [folder], right, 2, "transdesk: journal: OtherRows")
+    refused("another state", [folder], right, 2, f"{folder}: journal: OtherRows")
     write(f"{folder}/state", "aa/amd64 Building=1 0 0\n")
-    refused("a state that no row has", [folder], right, 2, "transdesk: state: NotOpening")
+    refused("a state that no row has", [folder], right, 2, f"{folder}: state: NotOpening")
     os.unlink(f"{folder}/state")
     os.symlink("/dev/full", f"{folder}/followed.new")
     why = f"{folder}/followed: No space left on device"
@@ -260,17 +267,13 @@ def refusals(room):
 
 def streams(room):
     """Nobody reads the answers, or there is no room for them: the lines are done all the same."""
-    for how, err in ((">/dev/full", said("standard output: No space left on device")), ("| true", "")):
-        folder, _ = room.desk(f"out {how[-4:]}", {"aa": "1"}, "nmu aa . ANY")
-        command = f'{{ sleep 0.2; "$0" "$@"; }} {how}; echo ${{PIPESTATUS[0]}} >&2'
-        words = ["bash", "-c", command, f"{room.runs.top}/bin/follow", folder]
+    for way in room.runs.unread("follow"):
+        folder, _ = room.desk(f"out {way.name}", {"aa": "1"}, "nmu aa . ANY")
         given = (HEADER + "aa,amd64,1,Installed,1,\n").encode()
-        done = subprocess.run(words, env=room.runs.world, input=given, capture_output=True)
-        room.runs.ran += 1
-        found = (done.stderr.decode(), desk(room.runs, folder, "row aa amd64"))
-        wanted = (f"{err}5\n", "aa/amd64 Installed 0 1\n")
-        if found != wanted:
-            room.runs.differs(f"follow {how}", wanted, found)
+        room.runs.into(way, ["follow", folder], given)
+        row = desk(room.runs, folder, "row aa amd64")
+        if row != "aa/amd64 Installed 0 1\n":
+            room.runs.differs(f"follow into {way.name}", "Installed", row)
 
 
 def many(room):
