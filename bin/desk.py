@@ -185,3 +185,9 @@ class Desk:
 def open_desk(folder, wait=False):
     """The desk of a folder, whose own file is its `journal`."""
     return Desk(files_of(folder_of(folder)), os.path.join(folder, "journal"), wait)
+
+
+def call(folder, lines, wait=False):
+    """The answers of a folder's desk to some lines: each the lines of one."""
+    with open_desk(folder, wait) as it:
+        return [it.ask(line) for line in lines]
