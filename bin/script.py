@@ -125,7 +125,9 @@ def replace(path, text):
 def _ended(main, about):
     """The status with which a script ends."""
     words = sys.argv[1:]
-    if "--help" in words or "-h" in words:
+    # (what is after `--` may be the words of another program)
+    own = words[: words.index("--")] if "--" in words else words
+    if "--help" in own or "-h" in own:
         print(about.strip(), file=sys.stderr)
         return 3
     try:
