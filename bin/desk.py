@@ -92,6 +92,20 @@ def runs_of(lines, room=SCRIPT_BYTES):
         yield some
 
 
+def place_of(files):
+    """The folder of which a fault of these files is told."""
+    return os.path.dirname(files["archs"]) or "."
+
+
+def fault_of(place, status, said):
+    """How the program failed, as a fault of the script."""
+    text = said.decode(errors="replace").strip().removeprefix("transdesk: ")
+    if text == "journal: Locked":
+        return Fault(f"{place}: another desk is at work there", 6)
+    text = text or f"transdesk ended with status {status}"
+    return Fault(f"{place}: {text}", status if status > 1 else 70)
+
+
 def run(files, lines):
     """The answers to a script over the opening rows of these files: nothing of it is kept."""
     answers = []
@@ -100,17 +114,9 @@ def run(files, lines):
         given = "".join(f"{line}\n" for line in some).encode()
         done = subprocess.run(command, input=given, capture_output=True)
         if done.returncode not in (0, 1):
-            raise _fault(done.returncode, done.stderr)
+            raise fault_of(place_of(files), done.returncode, done.stderr)
         answers += done.stdout.decode().split("\n")[:-1]
     return answers
-
-
-def _fault(status, said):
-    """How the program failed, as a fault of the script."""
-    text = said.decode(errors="replace").strip()
-    if text == "transdesk: journal: Locked":
-        return Fault("another desk is at work there", 6)
-    return Fault(text or f"transdesk ended with status {status}", status if status > 1 else 70)
 
 
 class Desk:
@@ -120,6 +126,7 @@ class Desk:
     """
 
     def __init__(self, files, journal, wait=False):
+        self.place = place_of(files)
         self.command = [*options(files), f"--journal={journal}", *(["--wait"] if wait else [])]
 
     def __enter__(self):
@@ -150,7 +157,7 @@ class Desk:
         while True:
             got = self.process.stdout.readline()
             if not got.endswith(b"\n"):
-                raise _fault(self.process.wait(), self.process.stderr.read())
+                raise fault_of(self.place, self.process.wait(), self.process.stderr.read())
             got = got[:-1].decode()
             # (a line may itself be one that no desk has; only `rows` may have no answer)
             if got == MARKED and (answer or line == "rows"):

@@ -3,6 +3,7 @@
 A script's `main(words)` returns its exit status or raises a `Fault`; `run(main, __doc__)` ends it.
 """
 
+import contextlib
 import errno
 import os
 import shutil
@@ -20,10 +21,11 @@ class Fault(Exception):
         self.status = status
 
 
-def say(text):
-    """Says a line on standard error."""
+def say(text, name=f"{NAME}: "):
+    """Says a line on standard error; what can't be written there is left out."""
     if sys.stderr is not None:
-        print(f"{NAME}: {text}", file=sys.stderr)
+        with contextlib.suppress(OSError):
+            os.write(sys.stderr.fileno(), f"{name}{text}\n".encode(errors="replace"))
 
 
 def tell(text):
@@ -119,6 +121,8 @@ def replace(path, text):
         finally:
             os.close(folder)
     except OSError as why:
+        with contextlib.suppress(OSError):
+            os.unlink(f"{path}.new")
         raise Fault(f"{path}: {why.strerror}", 5) from why
 
 
@@ -128,7 +132,7 @@ def _ended(main, about):
     # (what is after `--` may be the words of another program)
     own = words[: words.index("--")] if "--" in words else words
     if "--help" in own or "-h" in own:
-        print(about.strip(), file=sys.stderr)
+        say(about.strip(), "")
         return 3
     try:
         return main(words)
@@ -138,7 +142,7 @@ def _ended(main, about):
     except OSError as why:
         # (standard output; nobody reads what is left, or there is no room for it)
         if why.errno != errno.EPIPE:
-            say(f"standard output: {why.strerror}")
+            say(f"{why.filename or 'standard output'}: {why.strerror}")
         return 5
     except KeyboardInterrupt:
         return 130

@@ -86,7 +86,7 @@ def line_of(at, fields):
 
 
 def read(text, table):
-    """The lines of the CSV whose architecture is in the table, in their order; no key is there twice."""
+    """The lines of the CSV whose architecture is in the table, no key twice."""
     # (a byte order mark, as a spreadsheet writes it)
     text = text.removeprefix("\ufeff")
     rows = csv.DictReader(io.StringIO(text, newline=""), strict=True)

@@ -265,7 +265,8 @@ def faults(runs):
             desk.row(redirection, "foo/amd64", "Needs-Build 0 1")
         # the index has changed
         shutil.copy(cases.archive("steps")["sources"], f"{desk.folder}/sources")
-        desk.build("other rows", ONCE, ["true"], 2, "", said("transdesk: journal: OtherRows"))
+        why = said(f"{desk.folder}: journal: OtherRows")
+        desk.build("other rows", ONCE, ["true"], 2, "", why)
         os.remove(f"{desk.folder}/sources")
         why = said(f"{desk.folder}: it is no desk's folder: it has no sources")
         desk.build("no desk", ONCE, ["true"], 2, "", why)
@@ -281,7 +282,7 @@ def full_disk(runs):
             file.write(f"#!/bin/sh\ntrap '' XFSZ\nset --\n{limit}\n{given}\n")
         os.chmod(program, 0o755)
         world = {**runs.world, "PROGRAM": program}
-        unwritten = "transdesk: journal: cannot write"
+        unwritten = f"{desk.folder}: journal: cannot write"
         open(f"{desk.folder}/full", "wb").close()
         desk.build("full, a claim", ONCE, ["true"], 5, "", said(unwritten), env=world)
         desk.row("full, a claim", "foo/amd64", "Needs-Build 0 1")
@@ -296,7 +297,7 @@ def full_disk(runs):
         desk.build("room again", ONCE, ["true"], 0, out, why, env=world)
 
 
-def builders(runs):
+def run_all(runs):
     """All of it."""
     for group in (statuses, waiting, environments, stopped, cut_off, several, faults, full_disk):
         group(runs)
