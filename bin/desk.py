@@ -73,6 +73,18 @@ def options(files):
     return [f"--{role}={path}" for role, path in files.items()]
 
 
+def waiting(folder):
+    """What is still asked for since the desks before this folder's: keys, each with its message.
+
+    The file `asked` has it, as next-desk writes it. A row has no message itself, so `claim` can't
+    answer with it.
+    """
+    path = os.path.join(folder, "asked")
+    lines = script.read(path).split("\n") if os.path.exists(path) else []
+    parts = [line.partition(" : ") for line in lines]
+    return {words.split(" ")[0]: text for words, _, text in parts if " waiting " in words}
+
+
 def table_of(path):
     """The architectures of a table: the first word of each line that has one."""
     return {line.split()[0] for line in script.read(path).splitlines() if line.split()}
@@ -173,3 +185,9 @@ class Desk:
 def open_desk(folder, wait=False):
     """The desk of a folder, whose own file is its `journal`."""
     return Desk(files_of(folder_of(folder)), os.path.join(folder, "journal"), wait)
+
+
+def call(folder, lines, wait=False):
+    """The answers of a folder's desk to some lines: each the lines of one."""
+    with open_desk(folder, wait) as it:
+        return [it.ask(line) for line in lines]

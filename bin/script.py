@@ -32,18 +32,22 @@ def tell(text):
     """Writes to standard output, at once."""
     if sys.stdout is None:
         raise Fault("standard output: it is closed", 5)
-    sys.stdout.buffer.write(text.encode())
-    sys.stdout.flush()
+    try:
+        sys.stdout.buffer.write(text.encode())
+        sys.stdout.flush()
+    except OSError as why:
+        # (of a closed pipe nothing is said: nobody wants to read on)
+        is_pipe = why.errno == errno.EPIPE
+        raise Fault("" if is_pipe else f"standard output: {why.strerror}", 5) from why
 
 
-def words_of(words, values=(), flags=(), others=()):
+def words_of(words, values=(), flags=(), needed=()):
     """The options by their names, those of `flags` as True, and the other words in their order.
 
     A value is the next word, or what comes after `=`; of an option that is there twice the last
-    counts. After `--` no word is an option. `others` names the other words, each of which has to
-    be there; with None there may be any.
+    counts. After `--` no word is an option. `needed` names the other words, of which each has to
+    be there, and no more; with None there may be any.
     """
-    wanted = others
     options, others, rest = {}, [], list(words)
     while rest:
         word = rest.pop(0)
@@ -61,10 +65,10 @@ def words_of(words, values=(), flags=(), others=()):
             raise Fault(f"{name} needs a value", 3)
         else:
             options[name[2:]] = value if equals else rest.pop(0)
-    if wanted is not None and len(others) < len(wanted):
-        raise Fault(f"{wanted[len(others)]} is needed (--help says which words there are)", 3)
-    if wanted is not None and len(others) > len(wanted):
-        raise Fault(f"{others[len(wanted)]}: one word too many (--help says which there are)", 3)
+    if needed is not None and len(others) < len(needed):
+        raise Fault(f"{needed[len(others)]} is needed (--help says which words there are)", 3)
+    if needed is not None and len(others) > len(needed):
+        raise Fault(f"{others[len(needed)]}: one word too many (--help says which there are)", 3)
     return options, others
 
 
@@ -129,7 +133,7 @@ def replace(path, text):
 def _ended(main, about):
     """The status with which a script ends."""
     words = sys.argv[1:]
-    # (what is after `--` may be the words of another program)
+    # (what comes after -- is no script's own)
     own = words[: words.index("--")] if "--" in words else words
     if "--help" in own or "-h" in own:
         say(about.strip(), "")
@@ -137,12 +141,11 @@ def _ended(main, about):
     try:
         return main(words)
     except Fault as fault:
-        say(fault)
+        if str(fault):
+            say(fault)
         return fault.status
     except OSError as why:
-        # (standard output; nobody reads what is left, or there is no room for it)
-        if why.errno != errno.EPIPE:
-            say(f"{why.filename or 'standard output'}: {why.strerror}")
+        say(f"{why.filename or 'a file'}: {why.strerror}")
         return 5
     except KeyboardInterrupt:
         return 130

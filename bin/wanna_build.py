@@ -103,11 +103,10 @@ def read(text, table):
             line = line_of(at, fields)
             if line.arch not in table:
                 continue
-            if not line.why and line.key in seen:
+            if line.key in seen:
                 why = f"{line.key} is there twice (one distribution?)"
                 raise Fault(f"standard input: line {at}: {why}")
-            if not line.why:
-                seen.add(line.key)
+            seen.add(line.key)
             lines.append(line)
     except csv.Error as why:
         raise Fault(f"standard input: line {rows.line_num}: {why}") from why

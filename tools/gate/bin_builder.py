@@ -152,6 +152,12 @@ def environments(runs):
         desk.ask(NMU.replace(" : x", ""))
         out = f"{FOO} claimed\n{FOO} built\n"
         desk.build("environment", ONCE, command, 0, out, err.replace(" : x", ""))
+    with desk_of(runs, "nmu foo . ANY") as desk:
+        # (next-desk writes this file)
+        with open(f"{desk.folder}/asked", "w", encoding="ascii") as file:
+            file.write("foo/amd64 waiting Needs-Build : of yesterday\n")
+        command = shell('echo "$TRANSDESK_MESSAGE"')
+        desk.build("an earlier message", ONCE, command, 0, out, "of yesterday\n")
     with desk_of(runs, "nmu foo . ANY . -m 'ä : ;3 b'") as desk:
         world = {**runs.world, "LC_ALL": "C", "TRANSDESK_EXTRA": "old"}
         out, err = f"{FOO} claimed\n{FOO} built\n", "ä : ;3 b\n\n"

@@ -79,14 +79,15 @@ class Days:
     def folder(self, name):
         return f"{self.room}/{name}"
 
-    def next(self, what, old, new, out, state, err="", status=0, more=()):
-        """Compares a run; the new desk's `state` too. The old folder has to be as it was."""
+    def next(self, what, old, new, out, state, err="", status=0, more=(), asked=None):
+        """Compares a run, and the new desk's `state` and `asked`, which is `out` if it isn't given.
+        The old folder has to be as it was."""
         old, new = self.folder(old), self.folder(new)
         before = picture(old)
         self.runs.case(f"next-desk: {what}", ["next-desk", old, new, *more], "", status, out, err)
         if picture(old) != before:
             self.runs.differs(f"next-desk: {what}: the old folder", "as it was", os.listdir(old))
-        wanted = (state, out if state is not None else None)
+        wanted = (state, asked or out if state is not None else None)
         found = (read(f"{new}/state"), read(f"{new}/asked"))
         if found != wanted:
             self.runs.differs(f"next-desk: {what}: state and asked", wanted, found)
@@ -154,7 +155,9 @@ def outcomes(days):
         "moved/amd64 was Needs-Build 1: its source has version 1.1-1 now, and not 1.0-1",
         "rows that are superseded, and were as the old indices have them: 1",
     )
-    days.next("each outcome", "old", "new", out, rows, err)
+    line = "extra/amd64 waiting Needs-Build"
+    asked = out.replace(line, f"{line} : again")
+    days.next("each outcome", "old", "new", out, rows, err, asked=asked)
     answers = desk(days.runs, days.folder("new"), "sweep", "row waits amd64", "row extra amd64")
     wanted = (
         "entry 1 takes waits/amd64\nwaits/amd64 Needs-Build 0 1\n"
@@ -217,6 +220,33 @@ def chain(days):
     )
     # (aa/amd64 is +b1 in day 4's indices, and not in day 5's, which are right)
     days.next("an architecture leaves", "day-4", "day-5", "aa/i386 gone\n", "", err)
+
+
+def messages(days):
+    """The message of a rebuild lasts as long as the rebuild waits; the latest nmu counts."""
+    sources = dict.fromkeys(["aa", "bb", "cc", "dd"], "1")
+    extra = '--extra-depends "liba (>= 2)"'
+    archive(days.folder("told-1"), sources, sources)
+    desk(days.runs, days.folder("told-1"), "nmu bb . ANY",
+         f'nmu aa dd . ANY . -m "for : liba2 ;3" {extra}', 'nmu cc . ANY . -m "why ü"',
+         'dw cc . ANY . -m "liba"')
+    archive(days.folder("told-2"), sources, sources)
+    out = "".join(f"{name}/amd64 waiting Needs-Build\n" for name in ("aa", "bb", "cc", "dd"))
+    out = out.replace("cc/amd64 waiting Needs-Build", "cc/amd64 waiting Dep-Wait")
+    asked = out.replace("Dep-Wait", "Dep-Wait : why ü")
+    for name in ("aa", "dd"):
+        line = f"{name}/amd64 waiting Needs-Build"
+        asked = asked.replace(line, f"{line} : for : liba2 ;3")
+    rows = (
+        "aa/amd64 Needs-Build 0 1 ;11 liba (>= 2)\nbb/amd64 Needs-Build 0 1\n"
+        "cc/amd64 Dep-Wait 0 1 : liba\ndd/amd64 Needs-Build 0 1 ;11 liba (>= 2)\n"
+    )
+    days.next("messages", "told-1", "told-2", out, rows, asked=asked)
+    desk(days.runs, days.folder("told-2"), "gb cc . ANY")
+    archive(days.folder("told-3"), sources, sources)
+    out, asked, rows = (it.replace("Dep-Wait", "Needs-Build") for it in (out, asked, rows))
+    rows = rows.replace(" : liba\n", "\n")
+    days.next("messages, a day later", "told-2", "told-3", out, rows, asked=asked)
 
 
 def builders(days):
@@ -335,5 +365,6 @@ def many(days):
 def run_all(runs):
     with tempfile.TemporaryDirectory() as room:
         days = Days(runs, room)
-        for group in (outcomes, versions, decisions, chain, builders, refusals, disks, many):
+        groups = (outcomes, versions, decisions, chain, messages, builders, refusals, disks, many)
+        for group in groups:
             group(days)

@@ -1,4 +1,4 @@
-"""Runs of bin/follow: a desk is brought after wanna-build.
+"""Runs of bin/follow: a desk follows wanna-build.
 
 The table of states and the answers are worked out by hand, from the manual page.
 """
