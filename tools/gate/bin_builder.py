@@ -65,10 +65,25 @@ class Desk:
 
     def wait(self, name):
         """Waits for a file that a command makes, and removes it."""
-        end = time.monotonic() + SECONDS
-        while not os.path.exists(f"{self.folder}/{name}") and time.monotonic() < end:
-            time.sleep(0.01)
+        until(lambda: os.path.exists(f"{self.folder}/{name}"))
         os.remove(f"{self.folder}/{name}")
+
+    def waits(self, process):
+        """Waits until builder 1 heeds signals: its file has its process."""
+        path = f"{self.folder}/builder-1"
+        until(lambda: os.path.exists(path) and f"{process.pid}\n" == open(path).read())
+
+    def wait_for_number(self):
+        """Waits until nothing of builder 1 runs."""
+        with open(f"{self.folder}/builder-1", "rb") as file:
+            fcntl.flock(file, fcntl.LOCK_EX)
+
+
+def until(is_so):
+    """Waits until something is so."""
+    end = time.monotonic() + SECONDS
+    while not is_so() and time.monotonic() < end:
+        time.sleep(0.01)
 
 
 @contextlib.contextmanager
@@ -177,23 +192,25 @@ def stopped(runs):
             desk.ended(name, process, 128 + number, out, said(f"stopped by {name}"))
             desk.row(name, "foo/amd64", "Needs-Build 0 1")
         # a command that doesn't end by itself
-        process = desk.begin(["1", "amd64"], shell("trap '' TERM; touch begun; while :; do sleep 1; done"))
+        process = desk.begin(["1", "amd64"], shell("trap 'touch told' TERM; touch begun; while :; do sleep 1; done"))
         desk.wait("begun")
         process.send_signal(signal.SIGTERM)
-        time.sleep(0.2)
+        desk.wait("told")
         process.send_signal(signal.SIGTERM)
-        desk.ended("TERM twice", process, 143, out, said("stopped by TERM"))
+        # (the shell says that its `sleep` was stopped, too)
+        desk.ended("TERM twice", process, 143, out)
         # a builder that has nothing to build
         desk.ask("dw foo . ANY . -m bb")
         process = desk.begin(["1", "amd64", "--poll", "60"], ["true"])
-        time.sleep(0.5)
+        desk.waits(process)
         process.send_signal(signal.SIGTERM)
         desk.ended("TERM while it polls", process, 143, "", said("stopped by TERM"))
         # someone else has the desk
         with open(f"{desk.folder}/journal", "rb") as journal:
             fcntl.flock(journal, fcntl.LOCK_EX)
             process = desk.begin(["1", "amd64"], ["true"])
-            time.sleep(0.5)
+            desk.waits(process)
+            time.sleep(0.2)
             process.send_signal(signal.SIGTERM)
             desk.ended("TERM while it waits for the desk", process, 143, "", said("stopped by TERM"))
 
@@ -206,6 +223,7 @@ def cut_off(runs):
         process.kill()
         desk.ended("KILL", process, -9, f"{FOO} claimed\n")
         desk.wait("ended")
+        desk.wait_for_number()
         desk.row("KILL", "foo/amd64", "Building=1 0 1")
         desk.build("another's", ["2", "amd64"], ["true"], 0, "", said("nothing to build on amd64"))
         why = "builder 1 has foo/amd64: it isn't of i386"
