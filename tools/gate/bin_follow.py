@@ -159,10 +159,11 @@ def lines(room):
 def waits(room):
     """What a row waits for has to be a relation."""
     texts = {"aa": "", "bb": "libx (> 2)", "cc": '"libx ""a"""', "dd": '"libx,\n liby"'}
-    texts["ee"] = "a'b"
-    folder, _ = room.desk("waits", dict.fromkeys(texts, "1"), "nmu aa bb cc dd ee . ANY")
+    texts |= {"ee": "a'b", "ff": '"""libx"""'}
+    folder, _ = room.desk("waits", dict.fromkeys(texts, "1"), f"nmu {' '.join(texts)} . ANY")
     csv = "".join(f"{name},amd64,1,Dep-Wait,1,{text}\n" for name, text in texts.items())
     shown = {"aa": "it is empty", "bb": "libx (> 2)", "cc": 'libx "a"', "ee": "a'b"}
+    shown["ff"] = '"libx"'
     why = "Dep-Wait, and what it waits for is no relation: "
     rows = {f"{name}/amd64": why + text for name, text in shown.items()}
     err = said(*[stays(key, "Needs-Build 1", why) for key, why in rows.items()])
@@ -202,20 +203,22 @@ def sweeps(room):
 def builders(room):
     """65 rows are Building; then one is built."""
     names = [f"s{number:02}" for number in range(1, 66)]
-    folder, _ = room.desk("builders", dict.fromkeys(names, "1"), f"nmu {' '.join(names)} . ANY")
-    csv = "".join(f"{name},amd64,1,Building,1,\n" for name in names)
+    sources = dict.fromkeys([*names, "zz"], "1")
+    folder, _ = room.desk("builders", sources, f"nmu {' '.join(names)} . ANY")
+    csv = "zz,amd64,2,Built,,\n" + "".join(f"{name},amd64,1,Building,1,\n" for name in names)
     first = enumerate(names[:64], 2)
     out = "".join(f"entry {number} builds {name}/amd64 1+b1 1\n" for number, name in first)
     last = stays("s65/amd64", "Needs-Build 1", "Building, and no builder is free")
-    room.follow("65 builds", folder, csv, out, said(last))
+    zz = other("zz/amd64", "Installed 0", "Built", "2")
+    room.follow("65 builds", folder, csv, out, said(last, zz))
     csv = csv.replace("s64,amd64,1,Building", "s64,amd64,1,Built")
     out = "entry 66 takes s64/amd64\nentry 67 builds s65/amd64 1+b1 1\n"
-    room.follow("a builder that gets free", folder, csv, out)
+    room.follow("a builder that gets free", folder, csv, out, said(zz))
     # A builder that nobody knows of has each row now: what was noted is lost.
     os.unlink(f"{folder}/followed")
     csv = csv.replace("s01,amd64,1,Building", "s01,amd64,1,Installed")
     why = "Installed, and builder 64 isn't one of follow's"
-    err = said(stays("s01/amd64", "Building=64 1", why))
+    err = said(stays("s01/amd64", "Building=64 1", why), zz)
     room.follow("claims that are lost", folder, csv, "", err)
     # A call that was cut off after a claim: the claim was noted before.
     folder, _ = room.desk("cut", {"aa": "1"}, "nmu aa . ANY", "claim 64 aa amd64")
