@@ -224,21 +224,21 @@ def chain(days):
 
 def messages(days):
     """The message of a rebuild lasts as long as the rebuild waits; the latest nmu counts."""
-    sources = dict.fromkeys(["aa", "bb", "cc", "dd"], "1")
+    sources = dict.fromkeys(["aa", "aa+", "cc", "dd"], "1")
     extra = '--extra-depends "liba (>= 2)"'
     archive(days.folder("told-1"), sources, sources)
-    desk(days.runs, days.folder("told-1"), "nmu bb . ANY",
+    desk(days.runs, days.folder("told-1"), "nmu aa+ . ANY",
          f'nmu aa dd . ANY . -m "for : liba2 ;3" {extra}', 'nmu cc . ANY . -m "why ü"',
          'dw cc . ANY . -m "liba"')
     archive(days.folder("told-2"), sources, sources)
-    out = "".join(f"{name}/amd64 waiting Needs-Build\n" for name in ("aa", "bb", "cc", "dd"))
+    out = "".join(f"{name}/amd64 waiting Needs-Build\n" for name in ("aa", "aa+", "cc", "dd"))
     out = out.replace("cc/amd64 waiting Needs-Build", "cc/amd64 waiting Dep-Wait")
     asked = out.replace("Dep-Wait", "Dep-Wait : why ü")
     for name in ("aa", "dd"):
         line = f"{name}/amd64 waiting Needs-Build"
         asked = asked.replace(line, f"{line} : for : liba2 ;3")
     rows = (
-        "aa/amd64 Needs-Build 0 1 ;11 liba (>= 2)\nbb/amd64 Needs-Build 0 1\n"
+        "aa/amd64 Needs-Build 0 1 ;11 liba (>= 2)\naa+/amd64 Needs-Build 0 1\n"
         "cc/amd64 Dep-Wait 0 1 : liba\ndd/amd64 Needs-Build 0 1 ;11 liba (>= 2)\n"
     )
     days.next("messages", "told-1", "told-2", out, rows, asked=asked)

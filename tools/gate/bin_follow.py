@@ -159,10 +159,11 @@ def lines(room):
 def waits(room):
     """What a row waits for has to be a relation."""
     texts = {"aa": "", "bb": "libx (> 2)", "cc": '"libx ""a"""', "dd": '"libx,\n liby"'}
-    texts["ee"] = "a'b"
-    folder, _ = room.desk("waits", dict.fromkeys(texts, "1"), "nmu aa bb cc dd ee . ANY")
+    texts |= {"ee": "a'b", "ff": '"""libx"""'}
+    folder, _ = room.desk("waits", dict.fromkeys(texts, "1"), f"nmu {' '.join(texts)} . ANY")
     csv = "".join(f"{name},amd64,1,Dep-Wait,1,{text}\n" for name, text in texts.items())
     shown = {"aa": "it is empty", "bb": "libx (> 2)", "cc": 'libx "a"', "ee": "a'b"}
+    shown["ff"] = '"libx"'
     why = "Dep-Wait, and what it waits for is no relation: "
     rows = {f"{name}/amd64": why + text for name, text in shown.items()}
     err = said(*[stays(key, "Needs-Build 1", why) for key, why in rows.items()])
