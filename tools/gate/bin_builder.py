@@ -288,6 +288,9 @@ def faults(runs):
             desk.build(f"{words}", words, ["true"], 3, "")
         desk.build("no command", ["1", "amd64"], [], 3, "")
         desk.build("mips", ["1", "mips"], ["true"], 2, "", said("mips: the desk says UnknownArch"))
+        os.mkdir(f"{desk.folder}/builder-5")
+        why = said(f"{desk.folder}/builder-5: Is a directory")
+        desk.build("no lock", ["5", "amd64"], ["true"], 5, "", why)
         with open("/dev/full", "wb") as full:
             process = desk.begin(ONCE, ["true"], stdout=full)
             process.communicate(timeout=SECONDS)
