@@ -40,8 +40,8 @@ class Desk:
     def begin(self, words, command, **how):
         """A builder that has begun."""
         pipes = {"stdout": subprocess.PIPE, "stderr": subprocess.PIPE, "text": True}
-        how = {**pipes, "env": self.runs.world, "cwd": self.folder, "start_new_session": True, **how}
-        return subprocess.Popen([SCRIPT, self.folder, *words, "--", *command], **how)
+        pipes |= {"env": self.runs.world, "cwd": self.folder, "start_new_session": True}
+        return subprocess.Popen([SCRIPT, self.folder, *words, "--", *command], **pipes | how)
 
     def build(self, what, words, command, status, out, err=None, **how):
         """Compares a builder's end: its status, what it writes, and what it says."""
@@ -134,15 +134,17 @@ def statuses(runs):
             desk.build(why, ["1", "amd64"], command, 1, out, said(why))
             desk.row(why, "foo/amd64", "Needs-Build 0 1")
         # (words of COMMAND aren't the builder's)
-        desk.build("--help", ONCE, [*shell('echo "$0"'), "--help"], 0, f"{FOO} claimed\n{FOO} built\n", "--help\n")
+        out = f"{FOO} claimed\n{FOO} built\n"
+        desk.build("--help", ONCE, [*shell('echo "$0"'), "--help"], 0, out, "--help\n")
 
 
 def waiting(runs):
     """Status 3, with a relation, without, and with a text that is none."""
     waits = "foo/amd64 waits, but "
     counts = "it counts as attempted"
+    relation = "aa (>= 2), bb | cc"
     table = [
-        ("aa (>= 2),\n bb | cc", "waits : aa (>= 2), bb | cc", "Dep-Wait 0 1 : aa (>= 2), bb | cc", ""),
+        ("aa (>= 2),\n bb | cc", f"waits : {relation}", f"Dep-Wait 0 1 : {relation}", ""),
         ("", "attempted", "Build-Attempted 0 1", f"TRANSDESK_WAITS has no relation: {counts}"),
         ("aa (> 2", "attempted", "Build-Attempted 0 1", f"for no relation (BadRelation): {counts}"),
         (r"\377", "attempted", "Build-Attempted 0 1", f"for no relation (BadRelation): {counts}"),
@@ -169,10 +171,17 @@ def environments(runs):
         desk.build("environment", ONCE, command, 0, out, err.replace(" : x", ""))
     with desk_of(runs, "nmu foo . ANY") as desk:
         # (next-desk writes this file)
-        with open(f"{desk.folder}/asked", "w", encoding="ascii") as file:
+        asked = f"{desk.folder}/asked"
+        with open(asked, "w", encoding="ascii") as file:
             file.write("foo/amd64 waiting Needs-Build : of yesterday\n")
         command = shell('echo "$TRANSDESK_MESSAGE"')
         desk.build("an earlier message", ONCE, command, 0, out, "of yesterday\n")
+        desk.ask("gb foo . amd64")
+        with open(asked, "wb") as file:
+            file.write(b"\xff")
+        why = said(f"{asked}: byte 0 is no text (UTF-8)")
+        given_back = f"{FOO} claimed\n{FOO} givenback\n"
+        desk.build("an `asked` that is no text", ONCE, command, 2, given_back, why)
     with desk_of(runs, "nmu foo . ANY . -m 'ä : ;3 b'") as desk:
         world = {**runs.world, "LC_ALL": "C", "TRANSDESK_EXTRA": "old"}
         out, err = f"{FOO} claimed\n{FOO} built\n", "ä : ;3 b\n\n"
@@ -192,7 +201,8 @@ def stopped(runs):
             desk.ended(name, process, 128 + number, out, said(f"stopped by {name}"))
             desk.row(name, "foo/amd64", "Needs-Build 0 1")
         # a command that doesn't end by itself
-        process = desk.begin(["1", "amd64"], shell("trap 'touch told' TERM; touch begun; while :; do sleep 1; done"))
+        stubborn = shell("trap 'touch told' TERM; touch begun; while :; do sleep 1; done")
+        process = desk.begin(["1", "amd64"], stubborn)
         desk.wait("begun")
         process.send_signal(signal.SIGTERM)
         desk.wait("told")
@@ -212,13 +222,14 @@ def stopped(runs):
             desk.waits(process)
             time.sleep(0.2)
             process.send_signal(signal.SIGTERM)
-            desk.ended("TERM while it waits for the desk", process, 143, "", said("stopped by TERM"))
+            desk.ended("TERM before the desk", process, 143, "", said("stopped by TERM"))
 
 
 def cut_off(runs):
     """A builder is killed in the middle; the next one with its number finishes what it had."""
     with desk_of(runs, "nmu foo . ANY", "bp 5 bar . amd64") as desk:
-        process = desk.begin(["1", "amd64"], shell("trap 'kill $!; touch ended; exit' TERM; touch begun; sleep 60 & wait"))
+        text = "trap 'kill $!; touch ended; exit' TERM; touch begun; sleep 60 & wait"
+        process = desk.begin(["1", "amd64"], shell(text))
         desk.wait("begun")
         process.kill()
         desk.ended("KILL", process, -9, f"{FOO} claimed\n")
@@ -272,10 +283,14 @@ def several(runs):
 def faults(runs):
     """Bad words; folders that are no desk's; outputs that can't be written; a full disk."""
     with desk_of(runs, "nmu foo . ANY") as desk:
-        for words in (["0", "amd64"], ["65", "amd64"], ["1"], ["1", "amd64", "--poll", "0"], ["1", "amd64", "x"]):
+        bad = ("0 amd64", "65 amd64", "01 amd64", "1", "1 amd64 --poll 0", "1 amd64 x", "1 --x")
+        for words in map(str.split, bad):
             desk.build(f"{words}", words, ["true"], 3, "")
         desk.build("no command", ["1", "amd64"], [], 3, "")
         desk.build("mips", ["1", "mips"], ["true"], 2, "", said("mips: the desk says UnknownArch"))
+        os.mkdir(f"{desk.folder}/builder-5")
+        why = said(f"{desk.folder}/builder-5: Is a directory")
+        desk.build("no lock", ["5", "amd64"], ["true"], 5, "", why)
         with open("/dev/full", "wb") as full:
             process = desk.begin(ONCE, ["true"], stdout=full)
             process.communicate(timeout=SECONDS)
@@ -302,7 +317,7 @@ def full_disk(runs):
         with open(program, "w", encoding="ascii") as file:
             # (while `full` is there no file gets longer than that)
             limit = "[ ! -e full ] || set -- prlimit --fsize=$(stat -c %s journal)"
-            given = f"exec \"$@\" '{runs.world['PROGRAM']}' desk --folder=. --journal=journal --wait"
+            given = f"exec \"$@\" '{runs.world['PROGRAM']}' desk --folder=. --wait"
             file.write(f"#!/bin/sh\ntrap '' XFSZ\nset --\n{limit}\n{given}\n")
         os.chmod(program, 0o755)
         world = {**runs.world, "PROGRAM": program}
