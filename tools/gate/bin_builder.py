@@ -16,7 +16,7 @@ from cases import TOP
 
 FOOBAR = cases.archive("foobar")
 SCRIPT = f"{TOP}/bin/builder"
-SECONDS = 30
+SECONDS = 120
 # A command that is stopped in the middle: it says when it has begun.
 SLEEPS = ["sh", "-c", "touch begun; exec sleep 60"]
 

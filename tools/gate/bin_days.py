@@ -11,8 +11,9 @@ import subprocess
 import tempfile
 import time
 
-# What a run over 20,000 rows may take at most, in seconds.
-SECONDS = 60
+# What a run over 20,000 rows may take at most, in seconds: some 5 on a quiet machine, far more if it
+# looked at each row for each row.
+SECONDS = 300
 
 
 def write(path, text):
