@@ -1,11 +1,9 @@
 -- What a script's requests ask for, as it is told.
-use Rattle.std.proofs.Common.{◌≡◌, ℕ, Bool, true, false, List, ◌++◌, append-nil, Option, Some, None}
-use Rattle.std.proofs.Common.{[], Result, Ok, Err, refl, sym, ap, subst, ◌∙◌}
-use Rattle.std.specs.Prelude.{IfOk, OnErr, codes}
-use Rattle.td_rows.specs.Appending.{Grown}
+use Rattle.std.proofs.Common.{ℕ, Bool, true, false, List, ◌++◌, append-nil, Option, Some, None}
+use Rattle.std.proofs.Common.{[], sym, ap, ◌∙◌}
+use Rattle.std.specs.Prelude.{codes}
 use Rattle.td_rows.specs.declared.key.Key.{Key}
 use Rattle.td_rows.specs.declared.row.Row.{Row}
-use Rattle.td_rows.proofs.Appends.{grown_by, grown_by_nothing}
 use Rattle.td_journal.specs.declared.entry.Marked.{Marked}
 use Rattle.td_core.specs.History.{History}
 use Rattle.td_journal.specs.JournalText.{entry_line}

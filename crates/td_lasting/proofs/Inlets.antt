@@ -3,7 +3,7 @@ use Rattle.std.proofs.Common.{◌≡◌, ◌≢◌, ◌⊎◌, ℕ, ◌<◌, Boo
 use Rattle.std.proofs.Common.{append-nil, append_assoc, length, length-append, Option, Some, None}
 use Rattle.std.proofs.Common.{refl, sym, ap, subst, ◌∙◌, inl, inr, arith, take}
 use Rattle.std.specs.Io.KnownBytes.{Consumes, IsAtEnd}
-use Rattle.std.proofs.lemmas.List.Elements.{All-append, All-nil, recursion_from_All}
+use Rattle.std.proofs.lemmas.List.Elements.{All-append, All-nil, All-tail, recursion_from_All}
 use Rattle.td_text.specs.Cut.{Without}
 use Rattle.td_ledger.specs.Lines.{IsLine}
 use Rattle.td_lasting.specs.declared.framing.Framed.{Framed}
@@ -11,7 +11,8 @@ use Rattle.td_lasting.specs.declared.framing.Framed.TheVariants.{Whole, Unended,
 use Rattle.td_lasting.specs.Framing.{Frames, line_limit}
 use Rattle.td_lasting.specs.inner.Inlets.{FramesAs, InletView, IsDropped, IsLeft, LeftBy, StillLeft}
 use Rattle.td_lasting.specs.inner.Served.{HasNoNewline}
-use Rattle.td_lasting.specs.inner.Inlets.{TellsFirst, TellsLast, TellsLine, TellsNext, TellsWhole}
+use Rattle.td_lasting.specs.inner.Inlets.{StillWaits, TellsFirst, TellsLast, TellsLine, TellsNext}
+use Rattle.td_lasting.specs.inner.Inlets.{TellsWhole, Waits}
 
 both_lines : (a b : List ℕ) → IsLine a → IsLine b → IsLine (a ++ b)
 both_lines a b one two = All-append (λ x. x ≢ 10) a b one two
@@ -227,3 +228,47 @@ still_kept old v (Some before) None later read still = absurd still
 still_kept old v (Some before) (Some now) None read still = absurd read
 still_kept old v (Some before) (Some now) (Some later) read still = λ left is.
     subst (λ (l : List ℕ). IsLeft v l left) read (still left is)
+
+-- ---- 7. while no line is told of
+
+pub left_first : (v : InletView) (now : Option (List ℕ)) → StillLeft v v now now
+left_first v None = tt
+left_first v (Some now) = λ left is. is
+
+pub waits_first : (v : InletView) (now : Option (List ℕ)) → StillWaits v v now now
+waits_first v None = tt
+waits_first v (Some now) =
+    ([], refl, λ line. subst IsLine (sym (append-nil v.ahead)) line)
+
+pub waits_now : (old v : InletView) (before now : Option (List ℕ)) → IsLine v.ahead
+    → StillWaits old v before now → Waits old before now
+waits_now old v None now line still = tt
+waits_now old v (Some before) None line still = absurd still
+waits_now old v (Some before) (Some now) line still = (still.0, still.1, still.2 line)
+
+line_behind : (ahead piece : List ℕ) → IsLine (ahead ++ piece) → IsLine piece
+line_behind [] piece line = line
+line_behind (b ∷ ahead) piece line =
+    line_behind ahead piece (All-tail (λ x. x ≢ 10) b (ahead ++ piece) line)
+
+-- a piece more is read
+more_waits : (old v new : InletView) (before now later ahead piece : List ℕ) → IsLine v.ahead
+    → new.ahead ≡ ahead ++ piece → now ≡ piece ++ later
+    → StillWaits old v (Some before) (Some now) → StillWaits old new (Some before) (Some later)
+more_waits old v new before now later ahead piece line parts read still = (
+  still.0 ++ piece,
+  still.1 ∙ ap (λ (l : List ℕ). still.0 ++ l) read ∙ sym (append_assoc still.0 piece later),
+  λ whole. subst IsLine (append_assoc old.ahead still.0 piece)
+      (both_lines (old.ahead ++ still.0) piece (still.2 line)
+      (line_behind ahead piece (subst IsLine parts whole))),
+)
+
+pub still_waits : (old v new : InletView) (before now later : Option (List ℕ))
+    (ahead piece : List ℕ) → IsLine v.ahead → new.ahead ≡ ahead ++ piece
+    → Consumes now later piece → StillWaits old v before now → StillWaits old new before later
+still_waits old v new None now later ahead piece line parts read still = tt
+still_waits old v new (Some before) None later ahead piece line parts read still = absurd still
+still_waits old v new (Some before) (Some now) None ahead piece line parts read still =
+    absurd read
+still_waits old v new (Some before) (Some now) (Some later) ahead piece line parts read still =
+    more_waits old v new before now later ahead piece line parts read still

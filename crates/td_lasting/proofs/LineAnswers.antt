@@ -1,6 +1,6 @@
 -- The answers to lines that change nothing, and to those that are typed.
 use Rattle.std.proofs.Common.{◌≡◌, ℕ, Bool, true, false, List, [], Option, Some, None, Result}
-use Rattle.std.proofs.Common.{Ok, Err, refl, sym, subst, ◌∙◌, inl}
+use Rattle.std.proofs.Common.{Ok, Err, refl, sym, subst, inl}
 use Rattle.std.specs.Prelude.{codes, if◌then◌else◌}
 use Rattle.td_rows.specs.Appending.{Grown}
 use Rattle.td_rows.specs.declared.key.Key.{Key}
@@ -19,11 +19,10 @@ use Rattle.td_script.specs.Replies.{Reply, Setting, asks, refusal_line, refuses,
 use Rattle.td_script.specs.Replies.{shows_row, types, fault_name}
 use Rattle.td_script.specs.Replying.{IsPut}
 use Rattle.td_lasting.specs.declared.chronicle.DeskFault.{DeskFault}
-use Rattle.td_lasting.specs.declared.chronicle.DeskFault.TheVariants.{NoMemory, Stopped}
-use Rattle.td_lasting.specs.declared.event.Event.{Event}
+use Rattle.td_lasting.specs.declared.chronicle.DeskFault.TheVariants.{NoMemory}
 use Rattle.td_lasting.specs.declared.own_request.OwnRequest.{OwnRequest}
 use Rattle.td_lasting.specs.DeskAnswers.{own_asks, readies}
-use Rattle.td_lasting.specs.DeskView.{DeskView, IsAtRest, IsDone, IsShown, OnlyAsks}
+use Rattle.td_lasting.specs.DeskView.{DeskView, IsAtRest, IsShown, OnlyAsks}
 use Rattle.td_lasting.specs.Events.{undo_named}
 use Rattle.td_lasting.specs.inner.Answered.{IsAnswered}
 use Rattle.td_lasting.specs.Ready.{by_priority, is_known, queued_on, queued_text}
@@ -100,15 +99,6 @@ own_shown s r q v before now refused rest on is stays put =
 
 -- ---- 2. what is typed
 
--- a line that is a command is answered as that
-pub typed_answered : (s : Stock) (c : CommandParts) (read : Result CommandParts CommandFault)
-    (old new : DeskView) (before now : List ℕ) (result : Result Bool DeskFault) → read ≡ Ok c
-    → IsAnswered (types s old.history (Ok c)) None old new before now result
-    → IsAnswered (types s old.history read) None old new before now result
-typed_answered s c read old new before now result is answered =
-    subst (λ (x : Result CommandParts CommandFault).
-    IsAnswered (types s old.history x) None old new before now result) (sym is) answered
-
 -- a line that is none is refused
 pub typed_refused : (s : Stock) (fault : CommandFault) (read : Result CommandParts CommandFault)
     (v : DeskView) (before now : List ℕ) (refused : Bool) → IsAtRest v → v.stopped ≡ false
@@ -118,23 +108,3 @@ typed_refused s fault read v before now refused rest on is put =
     subst (λ (x : Result CommandParts CommandFault).
     IsAnswered (types s v.history x) None v v before now (Ok refused)) (sym is)
     (refused_shown (fault_name fault) None v before now refused rest on put)
-
--- ---- 3. a desk that has stopped
-
--- nothing is done by it
-pub stopped_before : {A : Type 0} (events : List Event) (v : DeskView) → v.stopped ≡ true
-    → IsDone {A = A} events v v (Err Stopped)
-stopped_before {A} events v stopped =
-    record {
-      stock = refl;
-      honest = refl;
-      done = tt;
-      goes_on = tt;
-      untouched = λ _. refl;
-      synced = λ _. tt;
-      any_moment = λ honest on header. absurd (let bad : true ≡ false = sym stopped ∙ on in cc);
-      memory = λ bad. absurd cc;
-      refused = λ _. (stopped, refl);
-      failed = λ bad. absurd cc;
-      due = λ bad. absurd cc;
-    }

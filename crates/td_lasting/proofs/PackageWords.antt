@@ -1,8 +1,8 @@
 -- Whether a source is named with its version.
 use Rattle.std.proofs.Common.{◌≡◌, ◌≢◌, ℕ, ◌==◌, ◌||◌, eqb, Bool, true, false, List, [], ◌∷◌, ◌++◌}
-use Rattle.std.proofs.Common.{length, Option, Some, None, Result, Ok, Err, refl, sym, ap, subst}
+use Rattle.std.proofs.Common.{length, Option, Some, None, Result, Ok, Err, refl, sym, ap}
 use Rattle.std.proofs.Common.{◌∙◌}
-use Rattle.std.proofs.Common.{append_assoc, append-nil, eq-eqb, is_none, if◌then◌else◌}
+use Rattle.std.proofs.Common.{append_assoc, eq-eqb, is_none, if◌then◌else◌}
 use Rattle.std.specs.Prelude.{OnOk, codes}
 use Rattle.std.specs.Result.{is_ok}
 use Rattle.std.proofs.lemmas.Bool.{or_parts}

@@ -2,9 +2,8 @@
 use Rattle.std.proofs.Common.{◌≡◌, ℕ, ◌<◌, Bool, true, false, List, [], ◌∷◌, ◌++◌, length}
 use Rattle.std.proofs.Common.{append-nil}
 use Rattle.std.proofs.Common.{Option, refl, sym, ap, subst, ◌∙◌, arith}
-use Rattle.std.specs.Prelude.{codes, if◌then◌else◌, slice_get, Result, Ok, Err, OnOk}
+use Rattle.std.specs.Prelude.{codes, if◌then◌else◌, Result, Ok, Err, OnOk}
 use Rattle.std.specs.Result.{is_ok}
-use Rattle.std.specs.List.{filter_map}
 use Rattle.td_rows.specs.StateWriting.{state_text}
 use Rattle.td_rows.specs.Table.{Table}
 use Rattle.td_supply.specs.Supply.{Stock, SupplyView}

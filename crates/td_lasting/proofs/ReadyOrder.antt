@@ -1,5 +1,5 @@
 -- The numbers of rows in the order in which the rows are to be built.
-use Rattle.std.proofs.Common.{◌≡◌, ◌≢◌, ℕ, zero, suc, ◌+◌, ◌<◌, Bool, true, false, List, [], ◌∷◌}
+use Rattle.std.proofs.Common.{◌≡◌, ℕ, zero, suc, ◌+◌, ◌<◌, Bool, true, false, List, [], ◌∷◌}
 use Rattle.std.proofs.Common.{refl}
 use Rattle.std.proofs.Common.{Option, Some, None, length, sym, ap, subst, ◌∙◌, arith, if◌then◌else◌}
 use Rattle.std.proofs.Common.{take, ◌++◌, filter}
@@ -8,8 +8,8 @@ use Rattle.std.specs.Prelude.{ℤ, pos, ◌&&◌, slice_get, slice_index_or}
 use Rattle.std.specs.List.{cons_option, filter_map}
 use Rattle.std.specs.Str.{bytes_eq}
 use Rattle.std.specs.List.Sorted.{IsPermutation, IsSortedBy}
-use Rattle.std.specs.Ordering.{flip_args, int_cmp, is_lt, nat_cmp, on, ordering_reverse}
-use Rattle.std.specs.Ordering.{ordering_then, then_cmp}
+use Rattle.std.specs.Ordering.{int_cmp, is_lt, nat_cmp}
+use Rattle.std.specs.Ordering.{ordering_then}
 use Rattle.std.specs.Cmp.{IsTotalOrder}
 use Rattle.std.specs.declared.cmp.Ordering.{Ordering}
 use Rattle.std.specs.declared.cmp.Ordering.TheVariants.{Less, Equal, Greater}

@@ -6,16 +6,16 @@ use Rattle.std.proofs.Common.{drop}
 use Rattle.std.proofs.Common.{Option, option_map, Some, None, refl, sym, ap, subst, ◌∙◌, arith}
 use Rattle.std.proofs.Common.{if◌then◌else◌}
 use Rattle.std.specs.Prelude.{slice_get, codes}
-use Rattle.std.specs.List.{flat_map, list_any}
+use Rattle.std.specs.List.{list_any}
 use Rattle.std.specs.Str.{bytes_eq}
 use Rattle.std.proofs.lemmas.Grind.{flat_map-append}
 use Rattle.std.proofs.lemmas.Slice.Eq.{bytes_eq-Decides}
-use Rattle.std.proofs.lemmas.List.{drop_all, length-take-le}
+use Rattle.std.proofs.lemmas.List.{length-take-le}
 use Rattle.td_relation.specs.Arch.{ArchWords}
 use Rattle.td_text.specs.Lines.{text_of}
 use Rattle.td_rows.specs.declared.key.Key.{Key}
 use Rattle.td_rows.specs.declared.kind.Kind.{Kind}
-use Rattle.td_rows.proofs.Lists.{drop-next, take-next}
+use Rattle.td_rows.proofs.Lists.{take-next}
 use Rattle.td_journal.specs.declared.entry.Marked.{Marked}
 use Rattle.td_supply.specs.Supply.{SupplyView}
 use Rattle.td_lasting.specs.Sending.{arch_words, by_source, groups_within, is_sent, same_source}

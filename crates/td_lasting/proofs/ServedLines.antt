@@ -1,5 +1,5 @@
 -- What the answering of a line of a session comes to, by what its calls answered.
-use Rattle.std.proofs.Common.{◌≡◌, ◌++◌, true, false, Bool, List, [], ℕ, Option, Ok, Err}
+use Rattle.std.proofs.Common.{◌≡◌, ◌++◌, false, Bool, List, [], ℕ, Option, Ok, Err}
 use Rattle.std.proofs.Common.{true≢false}
 use Rattle.std.proofs.Common.{refl, sym, ap, subst, ◌∙◌}
 use Rattle.std.specs.Io.KnownBytes.{Appends}
@@ -36,6 +36,7 @@ line_told s framed old new before now start text refused none replied done on ap
         history = replied.history;
         refusal = replied.refusal;
         running = done.goes_on;
+        steady = done.steady;
       };
       lost = tt;
       stock = done.stock;
@@ -70,7 +71,8 @@ lost_so : (s : Setting) (framed : Framed) (old new : DeskView) (before : Option 
     → old.stopped ≡ false → IsLineLost s framed old new before before (of_desk fault)
 lost_so s framed old new before desk.Stopped done on =
     absurd (true≢false (sym (done.refused refl).0 ∙ on))
-lost_so s framed old new before desk.CannotWrite done on = (refl, done.failed refl)
+lost_so s framed old new before desk.CannotWrite done on =
+    (refl, done.failed refl, done.due refl)
 lost_so s framed old new before desk.NoMemory done on =
     (refl, ap (λ (v : DeskView). v.history) (done.memory refl))
 

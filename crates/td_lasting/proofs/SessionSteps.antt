@@ -1,14 +1,19 @@
 -- What a session has come to after some lines of its input, and at its end.
 use Rattle.std.proofs.Common.{◌≡◌, ◌+◌, ℕ, Bool, true, false, if◌then◌else◌, Global, List, [], ◌∷◌}
 use Rattle.std.proofs.Common.{◌++◌, append_assoc, append-nil, Option, Some, None, Result, Ok, Err}
-use Rattle.std.proofs.Common.{IsTrue, refl, sym, ap, subst, ◌∙◌}
+use Rattle.std.proofs.Common.{IsTrue, refl, sym, ap, subst, ◌∙◌, ◌⊎◌, inl, inr, ◌≢◌, arith, length}
+use Rattle.std.proofs.Common.{length-append}
 use Rattle.std.specs.Io.KnownBytes.{Appends}
+use Rattle.std.specs.List.{All}
 use Rattle.std.proofs.KnownBytes.{Appends-nil, Appends-trans}
+use Rattle.std.proofs.lemmas.List.Elements.{All-append, All-cons, All-nil}
 use Rattle.td_bytes.specs.Pieces.{AppendsPrefix}
 use Rattle.td_bytes.proofs.Prefixes.{AppendsPrefix-second}
 use Rattle.td_core.specs.History.{History}
 use Rattle.td_ledger.specs.Calls.{Known, Passes}
-use Rattle.td_ledger.specs.Disk.{Disk, Finds}
+use Rattle.td_ledger.specs.Disk.{Finds}
+use Rattle.td_ledger.specs.Lines.{IsLine, text_of, whole_lines}
+use Rattle.td_ledger.proofs.WholeLines.{text_of-append, whole_lines-line, whole_lines-text_of}
 use Rattle.td_ledger.proofs.Finding.{passes_then, passes_weaker}
 use Rattle.td_script.specs.Replies.{Setting}
 use Rattle.td_script.specs.Script.{Told, added}
@@ -20,12 +25,12 @@ use Rattle.td_lasting.specs.declared.serving.ServeEnd.{ServeEnd}
 use Rattle.td_lasting.specs.declared.serving.ServeFault.{ServeFault}
 use Rattle.td_lasting.specs.declared.serving.ServeFault.TheVariants.{CannotRead, CannotKeep}
 use Rattle.td_lasting.specs.declared.serving.ServeFault.TheVariants.{CannotTell, NoMemory}
-use Rattle.td_lasting.specs.DeskView.{DeskView, IsAtRest, TellsUpTo}
+use Rattle.td_lasting.specs.DeskView.{DeskView, IsAtRest, IsTooLong, TellsUpTo}
 use Rattle.td_lasting.specs.Faults.{of_frame}
-use Rattle.td_lasting.specs.Framing.{FramesAll}
-use Rattle.td_lasting.specs.Sessions.{AreAnswered, EndsBy, IsServed, framed_answer, framed_events}
-use Rattle.td_lasting.specs.Sessions.{session, session_events}
-use Rattle.td_lasting.specs.inner.Inlets.{InletView, IsLeft, LeftBy, TellsFirst, TellsNext}
+use Rattle.td_lasting.specs.Framing.{FrameEach, Frames, FramesAll}
+use Rattle.td_lasting.specs.Sessions.{AreAnswered, EndsBy, IsServed, IsTurn, IsTurnAt, MayNotBeKept}
+use Rattle.td_lasting.specs.Sessions.{framed_answer, framed_events, session, session_events}
+use Rattle.td_lasting.specs.inner.Inlets.{InletView, IsLeft, LeftBy, TellsFirst, TellsNext, Waits}
 use Rattle.td_lasting.specs.inner.Served.{IsLineLost, IsServedLine}
 use Rattle.td_lasting.proofs.Framings.{first_told, input_told, nothing_framed}
 use Rattle.td_lasting.proofs.Saves.{stays_found}
@@ -33,6 +38,17 @@ use Rattle.td_lasting.proofs.SessionLaws.{events_append, events_more, same_event
 use Rattle.td_lasting.proofs.SessionLaws.{session_tells, tells_more, tells_then}
 
 -- ---- 1. after some lines
+
+-- these whole lines were taken off the input
+pub record HasTaken (input left : List ℕ) (lines : List Framed) : Type 0 where
+  pub whole : List (List ℕ)
+  pub are : All IsLine whole
+  pub each : FrameEach whole lines
+  pub parts : input ≡ text_of whole ++ left
+
+-- all of the input was taken, or whole lines were
+abbrev AreTaken : List ℕ → List ℕ → List Framed → Type 0
+AreTaken input left lines = (left ≡ []) ⊎ HasTaken input left lines
 
 -- Some first lines of the input are answered, and this many of them were refused. Whatever is left
 -- of the input can be told of behind them.
@@ -42,8 +58,10 @@ pub record HasServed (s : Setting) (input remaining : List ℕ) (inlet : InletVi
   pub left : List ℕ
   pub is_left : IsLeft inlet remaining left
   pub goes_on : (rest : List Framed) → FramesAll left rest → FramesAll input (lines ++ rest)
+  pub taken : AreTaken input left lines
   pub answered : AreAnswered s old new before now lines
   pub refusals : refused ≡ (session s old.history lines).refused
+  pub steady : new.device.can_fail ≡ old.device.can_fail
   pub any_moment : IsTrue old.device.honest → (header : List ℕ)
       → Passes (Finds (TellsUpTo header old.history (session_events s old.history lines)))
       old.device new.device
@@ -68,8 +86,10 @@ none_served s (Some input) inlet v before none short rest on =
       is_left = subst (λ (b : Bool). LeftBy b inlet.ahead input input) (sym short)
           (subst (λ (l : List ℕ). LeftBy false l input input) (sym none) refl);
       goes_on = λ more framed. framed;
+      taken = inr (record { whole = []; are = All-nil IsLine; each = tt; parts = refl });
       answered = record { written = Appends-nil before; history = refl };
       refusals = refl;
+      steady = refl;
       any_moment = λ honest header.
           stays_found header v.history [] v.device v.stopped rest on honest;
     }
@@ -115,6 +135,34 @@ written_more s h now lines last before told after is first second =
     (Appends-trans before told after (session s h lines).text (framed_answer s now last).text first
     second)
 
+each_more : (whole : List (List ℕ)) (lines : List Framed) (line : List ℕ) (framed : Framed)
+    → FrameEach whole lines → Frames line framed
+    → FrameEach (whole ++ line ∷ []) (lines ++ framed ∷ [])
+each_more [] [] line framed each frames = (frames, tt)
+each_more [] (first ∷ lines) line framed each frames = absurd each
+each_more (first ∷ whole) [] line framed each frames = absurd each
+each_more (first ∷ whole) (told ∷ lines) line framed each frames =
+    (each.0, each_more whole lines line framed each.1 frames)
+
+taken_more : (input left after : List ℕ) (lines : List Framed) (framed : Framed)
+    → AreTaken input left lines → TellsFirst left (Some framed) after
+    → AreTaken input after (lines ++ framed ∷ [])
+taken_more input left after lines framed taken (inr t) = inl t.none
+taken_more input left after lines framed (inl none) (inl t) =
+    absurd (omega (arith, ap length (sym none ∙ t.parts), length-append t.line (10 ∷ after)))
+taken_more input left after lines framed (inr taken) (inl t) =
+    inr (record {
+      whole = taken.whole ++ t.line ∷ [];
+      are = All-append IsLine taken.whole (t.line ∷ []) taken.are
+          (All-cons IsLine t.line [] t.is_line (All-nil IsLine));
+      each = each_more taken.whole lines t.line framed taken.each t.frames;
+      parts = taken.parts
+          ∙ ap (λ (l : List ℕ). text_of taken.whole ++ l)
+          (t.parts ∙ sym (append_assoc t.line (10 ∷ []) after))
+          ∙ sym (append_assoc (text_of taken.whole) (t.line ++ 10 ∷ []) after)
+          ∙ ap (λ (l : List ℕ). l ++ after) (sym (text_of-append taken.whole (t.line ∷ [])));
+    })
+
 line_more : (s : Setting) (input remaining later : List ℕ) (inlet next : InletView)
     (old v new : DeskView) (before told after : Option (List ℕ)) (framed : Framed)
     (refused more : ℕ) (is_refused : Bool)
@@ -138,6 +186,7 @@ line_more s input remaining later inlet next old v new before told after framed 
           subst (FramesAll input) (sym (append_assoc lines (framed ∷ []) rest))
           (so_far.goes_on (framed ∷ rest)
           (first_told so_far.left t.0 framed rest t.2 framing));
+      taken = taken_more input so_far.left t.0 lines framed so_far.taken t.2;
       answered = record {
         written = written_more s h v.history lines framed before told after is
             so_far.answered.written line.told.written;
@@ -148,6 +197,7 @@ line_more s input remaining later inlet next old v new before told after framed 
           ∙ ap (λ (b : Bool). (session s h lines).refused + (if b then 1 else 0))
           line.told.refusal
           ∙ sym (ap (λ (x : Told). x.refused) all);
+      steady = line.told.steady ∙ so_far.steady;
       any_moment = λ honest header.
           moments_more s h v.history lines framed header old.device v.device new.device is
           (so_far.any_moment honest header)
@@ -172,7 +222,91 @@ line_served s (Some input) (Some remaining) (Some later) inlet next old v new be
     line_more s input remaining later inlet next old v new before told after framed refused more
     is_refused tells line counted honesty so_far
 
--- ---- 3. at an end
+-- ---- 3. when more may be read
+
+-- what was read and isn't taken has no newline
+pub record IsBehind (left now : List ℕ) : Type 0 where
+  pub line : List ℕ
+  pub is_line : IsLine line
+  pub parts : left ≡ line ++ now
+
+behind : (long : Bool) (ahead remaining left piece now : List ℕ)
+    → LeftBy long ahead remaining left → remaining ≡ piece ++ now → IsLine (ahead ++ piece)
+    → IsBehind left now
+behind false ahead remaining left piece now is read line =
+    record {
+      line = ahead ++ piece;
+      is_line = line;
+      parts = is ∙ ap (λ (l : List ℕ). ahead ++ l) read ∙ sym (append_assoc ahead piece now);
+    }
+behind true ahead remaining left piece now is read line =
+    record {
+      line = is.0 ++ (ahead ++ piece);
+      is_line = All-append (λ b. b ≢ 10) is.0 (ahead ++ piece) is.2 line;
+      parts = is.3
+          ∙ ap (λ (l : List ℕ). is.0 ++ l)
+          (ap (λ (l : List ℕ). ahead ++ l) read ∙ sym (append_assoc ahead piece now))
+          ∙ sym (append_assoc is.0 (ahead ++ piece) now);
+    }
+
+none_behind : (line now : List ℕ) → [] ≡ line ++ now → now ≡ []
+none_behind [] now none = sym none
+none_behind (b ∷ line) now none = let bad = none in cc
+
+turn_known : (s : Setting) (input remaining now : List ℕ) (inlet : InletView)
+    (old v : DeskView) (before told : Option (List ℕ)) (refused : ℕ)
+    → HasServed s input remaining inlet old v before told refused
+    → Waits inlet (Some remaining) (Some now) → IsTurnAt s old.history input now before told
+turn_known s input remaining now inlet old v before told refused so_far waits = by so_far.taken
+  where
+    back : IsBehind so_far.left now
+    back =
+        behind inlet.long inlet.ahead remaining so_far.left waits.0 now so_far.is_left waits.1
+        waits.2
+
+    by : AreTaken input so_far.left so_far.lines → IsTurnAt s old.history input now before told
+    by (inl none) =
+        let nothing = none_behind back.line now (sym none ∙ back.parts) in
+        record {
+          read = input;
+          lines = so_far.lines;
+          parts = sym (append-nil input) ∙ ap (λ (l : List ℕ). input ++ l) (sym nothing);
+          are = inr (
+            nothing,
+            subst (FramesAll input) (append-nil so_far.lines)
+                (so_far.goes_on []
+                (subst (λ (l : List ℕ). FramesAll l []) (sym none) nothing_framed)),
+          );
+          written = so_far.answered.written;
+        }
+    by (inr taken) =
+        let lines : whole_lines (text_of taken.whole ++ back.line) ≡ taken.whole =
+        whole_lines-text_of taken.whole back.line taken.are
+        ∙ ap (λ (l : List (List ℕ)). taken.whole ++ l) (whole_lines-line back.line back.is_line)
+        ∙ append-nil taken.whole in
+        record {
+          read = text_of taken.whole ++ back.line;
+          lines = so_far.lines;
+          parts = taken.parts ∙ ap (λ (l : List ℕ). text_of taken.whole ++ l) back.parts
+              ∙ sym (append_assoc (text_of taken.whole) back.line now);
+          are = inl (subst (λ (l : List (List ℕ)). FrameEach l so_far.lines) (sym lines)
+              taken.each);
+          written = so_far.answered.written;
+        }
+
+-- while no further line is told of, those that were read are answered
+pub turn_at : (s : Setting) (input remaining now : Option (List ℕ)) (inlet : InletView)
+    (old v : DeskView) (before told : Option (List ℕ)) (refused : ℕ)
+    → Serves s input remaining inlet old v before told refused → Waits inlet remaining now
+    → IsTurn s old.history input now before told
+turn_at s None remaining now inlet old v before told refused so_far waits = tt
+turn_at s (Some input) None now inlet old v before told refused so_far waits = absurd so_far
+turn_at s (Some input) (Some remaining) None inlet old v before told refused so_far waits =
+    absurd waits
+turn_at s (Some input) (Some remaining) (Some now) inlet old v before told refused so_far waits =
+    turn_known s input remaining now inlet old v before told refused so_far waits
+
+-- ---- 4. at an end
 
 -- what the file tells of some first lines it tells of all, however these are told of
 moments_of_all : (s : Setting) (h : History) (input : List ℕ) (lines rest all : List Framed)
@@ -261,23 +395,42 @@ none_read heap s (Some input) (Some remaining) inlet old new before now refused 
     (so_far.goes_on rest.0 rest.1) so_far.any_moment
     (stopped_by s so_far.lines rest.0 old new before now fault so_far.answered)
 
--- ---- 4. at a line that isn't answered
+-- ---- 5. at a line that isn't answered
+
+-- it may not have been kept, wherever the file stands by then
+not_kept : (s : Setting) (lines : List Framed) (framed : Framed) (old v : DeskView)
+    (before now : Option (List ℕ)) → v.device.can_fail ≡ old.device.can_fail
+    → AreAnswered s old v before now lines → (v.device.can_fail ≡ true)
+    ⊎ IsTooLong v.device v.history (framed_events s v.history framed)
+    → MayNotBeKept s old before now lines framed
+not_kept s lines framed old v before now steady answered (inl fails) = inl (sym steady ∙ fails)
+not_kept s lines framed old v before now steady answered (inr long) = inr (v, answered, long)
 
 lost_by : (s : Setting) (lines rest : List Framed) (framed : Framed) (old v new : DeskView)
     (before told after : Option (List ℕ)) (fault : ServeFault)
+    → v.device.honest ≡ old.device.honest → v.device.can_fail ≡ old.device.can_fail
     → AreAnswered s old v before told lines → IsLineLost s framed v new told after fault
     → EndsBy s ((lines ++ framed ∷ []) ++ rest) old new before after (Err fault)
-lost_by s lines rest framed old v new before told after CannotRead answered lost = absurd lost
-lost_by s lines rest framed old v new before told after CannotKeep answered lost = (
-  lines,
-  (framed ∷ rest, append_assoc lines (framed ∷ []) rest),
-  record {
-    written = subst (λ (o : Option (List ℕ)).
-        Appends before o (session s old.history lines).text) (sym lost.0) answered.written;
-    stopped = lost.1;
-  },
-)
-lost_by s lines rest framed old v new before told after CannotTell answered lost =
+lost_by s lines rest framed old v new before told after CannotRead honesty steady answered lost =
+    absurd lost
+lost_by s lines rest framed old v new before told after CannotKeep honesty steady answered lost =
+    let written : Appends before after (session s old.history lines).text =
+    subst (λ (o : Option (List ℕ)). Appends before o (session s old.history lines).text)
+    (sym lost.0) answered.written in (
+      lines,
+      (
+        framed,
+        (rest, refl),
+        record {
+          written = written;
+          stopped = lost.1;
+          due = λ honest. not_kept s lines framed old v before after steady
+              (record { written = written; history = answered.history })
+              (lost.2 (subst IsTrue (sym honesty) honest));
+        },
+      ),
+    )
+lost_by s lines rest framed old v new before told after CannotTell honesty steady answered lost =
     let all = told_more s old.history v.history lines framed answered.history in (
       lines,
       (
@@ -291,7 +444,7 @@ lost_by s lines rest framed old v new before told after CannotTell answered lost
         },
       ),
     )
-lost_by s lines rest framed old v new before told after NoMemory answered lost = (
+lost_by s lines rest framed old v new before told after NoMemory honesty steady answered lost = (
   lines,
   (framed ∷ rest, append_assoc lines (framed ∷ []) rest),
   record {
@@ -321,7 +474,8 @@ line_not_served heap s input remaining later inlet next old v new before told af
     moments_more s h v.history lines framed header old.device v.device new.device
     so_far.answered.history (so_far.any_moment honest header)
     (line.any_moment (subst IsTrue (sym honesty) honest) header))
-    (lost_by s lines rest.0 framed old v new before told after fault so_far.answered line.lost)
+    (lost_by s lines rest.0 framed old v new before told after fault honesty so_far.steady
+    so_far.answered line.lost)
 
 pub line_lost : Global → (s : Setting) (input remaining later : Option (List ℕ))
     (inlet next : InletView) (old v new : DeskView) (before told after : Option (List ℕ))

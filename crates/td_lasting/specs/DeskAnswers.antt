@@ -14,7 +14,7 @@ use Rattle.td_rows.specs.KeyText.{key_text}
 use Rattle.td_rows.specs.Meaning.{applies}
 use Rattle.td_rows.specs.Notes.{notes}
 use Rattle.td_rows.specs.StateWriting.{state_text}
-use Rattle.td_rows.specs.Table.{Table, row_of}
+use Rattle.td_rows.specs.Table.{row_of}
 use Rattle.td_text.specs.Lines.{text_of}
 use Rattle.td_version.specs.Rebuild.{rebuild_text}
 use Rattle.td_journal.specs.declared.entry.Entry.{Entry}

@@ -1,7 +1,7 @@
 -- What clauses see of a desk in a file, what holds of each, and what its calls do. This project's
 -- own.
 use Rattle.std.specs.Prelude.{◌≡◌, ◌≢◌, ◌⊎◌, ◌++◌, ◌≤◌, ◌+◌, ◌^◌, ℕ, Bool, true, false, List, []}
-use Rattle.std.specs.Prelude.{Option, Result, Ok, Err, OnOk, IsErrOf, IsTrue, IsUtf8, length, take}
+use Rattle.std.specs.Prelude.{Option, Result, Ok, OnOk, IsErrOf, IsTrue, IsUtf8, length, take}
 use Rattle.td_rows.specs.declared.key.Key.{Key}
 use Rattle.td_rows.specs.Keys.{names}
 use Rattle.td_rows.specs.KeyText.{KeyFits}
@@ -91,6 +91,7 @@ pub record IsDone {A : Type 0} (events : List Event) (old new : DeskView)
   pub honest : new.device.honest ≡ old.device.honest
   pub done : OnOk result (new.history ≡ followed_all old.history events)
   pub goes_on : OnOk result (new.stopped ≡ false)
+  pub steady : OnOk result (new.device.can_fail ≡ old.device.can_fail)
   pub untouched : events ≡ [] → new ≡ old
   pub synced : IsTrue old.device.honest → OnOk result ((events ≡ []) ⊎ IsSynced new.device.disk)
   pub any_moment : IsTrue old.device.honest → old.stopped ≡ false → (header : List ℕ)

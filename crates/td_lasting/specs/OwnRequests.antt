@@ -1,5 +1,5 @@
 -- The five lines that a desk in a file has beside those of a script. This project's own.
-use Rattle.std.specs.Prelude.{ℕ, List, ◌∷◌, ◌++◌, Option, Some, None, IsTrue, length, ◌<◌, codes}
+use Rattle.std.specs.Prelude.{ℕ, List, ◌∷◌, ◌++◌, Some, None, IsTrue, length, ◌<◌, codes}
 use Rattle.std.specs.Prelude.{decimal}
 use Rattle.td_text.specs.Words.{is_arch}
 use Rattle.td_rows.specs.KeyText.{KeyFits}

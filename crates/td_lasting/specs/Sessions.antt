@@ -1,10 +1,11 @@
 -- The answers to the lines of a session, one after the other. This project's own.
 use Rattle.std.specs.Prelude.{◌≡◌, ℕ, ◌+◌, true, List, [], ◌∷◌, ◌++◌, fold, codes, string_bytes}
-use Rattle.std.specs.Prelude.{Option, IfSome, IsTrue, Result, Ok, Err}
+use Rattle.std.specs.Prelude.{Option, Some, None, ◌⊎◌, IfSome, IsTrue, Result, Ok, Err}
 use Rattle.std.specs.Io.KnownBytes.{Appends}
 use Rattle.td_bytes.specs.Pieces.{AppendsPrefix}
 use Rattle.td_ledger.specs.Calls.{Passes}
 use Rattle.td_ledger.specs.Disk.{Finds}
+use Rattle.td_ledger.specs.Lines.{whole_lines}
 use Rattle.td_core.specs.History.{History}
 use Rattle.td_script.specs.Replies.{Reply, Setting, refuses}
 use Rattle.td_script.specs.Script.{Told, added, begun}
@@ -16,9 +17,9 @@ use Rattle.td_lasting.specs.declared.serving.ServeEnd.{ServeEnd}
 use Rattle.td_lasting.specs.declared.serving.ServeFault.{ServeFault}
 use Rattle.td_lasting.specs.declared.serving.ServeFault.TheVariants.{CannotRead, CannotKeep}
 use Rattle.td_lasting.specs.declared.serving.ServeFault.TheVariants.{CannotTell, NoMemory}
-use Rattle.td_lasting.specs.DeskView.{DeskView, TellsUpTo}
+use Rattle.td_lasting.specs.DeskView.{DeskView, IsTooLong, TellsUpTo}
 use Rattle.td_lasting.specs.Events.{events_of}
-use Rattle.td_lasting.specs.Framing.{FramesAll}
+use Rattle.td_lasting.specs.Framing.{FrameEach, FramesAll}
 
 -- the answer to a line of the input: one that can't be taken is refused, comments too
 abbrev pub framed_answer : Setting → History → Framed → Reply
@@ -46,6 +47,29 @@ session_events s h [] = []
 session_events s h (line ∷ lines) =
     framed_events s h line ++ session_events s (framed_answer s h line).after lines
 
+-- ---- when more may be read
+
+-- these are the whole lines of what was read; or, at the end of the input, all lines of it, with one
+-- that may have been cut
+abbrev pub AreRead : List ℕ → List ℕ → List Framed → Type 0
+AreRead read left lines = FrameEach (whole_lines read) lines ⊎ ((left ≡ []) × FramesAll read lines)
+
+-- this is left of an input, and the lines of what was read are answered, each answer written
+pub record IsTurnAt (s : Setting) (h : History) (input left : List ℕ)
+    (before now : Option (List ℕ)) : Type 0 where
+  pub read : List ℕ
+  pub lines : List Framed
+  pub parts : input ≡ read ++ left
+  pub are : AreRead read left lines
+  pub written : Appends before now (session s h lines).text
+
+-- more may be read, of what clauses know
+abbrev pub IsTurn : Setting → History → Option (List ℕ) → Option (List ℕ) → Option (List ℕ)
+    → Option (List ℕ) → Type 0
+IsTurn s h None left before now = Unit {0}
+IsTurn s h (Some input) None before now = ⊥
+IsTurn s h (Some input) (Some left) before now = IsTurnAt s h input left before now
+
 -- ---- what a session comes to
 
 -- these lines are answered and their answers written: the desk has the history behind them
@@ -60,11 +84,19 @@ pub record AreCutOff (s : Setting) (old new : DeskView) (before now : Option (Li
   pub written : AppendsPrefix before now (session s old.history (lines ++ last ∷ [])).text
   pub history : new.history ≡ (session s old.history (lines ++ last ∷ [])).after
 
+-- behind these lines one more may not be kept: the file may fail, or it would be too long
+abbrev pub MayNotBeKept : Setting → DeskView → Option (List ℕ) → Option (List ℕ) → List Framed
+    → Framed → Type 0
+MayNotBeKept s old before now lines last = (old.device.can_fail ≡ true)
+    ⊎ ((v : DeskView) × AreAnswered s old v before now lines
+    × IsTooLong v.device v.history (framed_events s v.history last))
+
 -- these lines are answered; one more couldn't be kept, and the desk has stopped
 pub record AreStopped (s : Setting) (old new : DeskView) (before now : Option (List ℕ))
-    (lines : List Framed) : Type 0 where
+    (lines : List Framed) (last : Framed) : Type 0 where
   pub written : Appends before now (session s old.history lines).text
   pub stopped : new.stopped ≡ true
+  pub due : IsTrue old.device.honest → MayNotBeKept s old before now lines last
 
 -- the first of all lines are these
 abbrev pub AreFirstOf : List Framed → List Framed → Type 0
@@ -84,7 +116,8 @@ EndsBy s all old new before now (Err CannotTell) =
     (lines : List Framed) × ((last : Framed) × AreFirstOf all (lines ++ last ∷ [])
     × AreCutOff s old new before now lines last)
 EndsBy s all old new before now (Err CannotKeep) =
-    (lines : List Framed) × AreFirstOf all lines × AreStopped s old new before now lines
+    (lines : List Framed) × ((last : Framed) × AreFirstOf all (lines ++ last ∷ [])
+    × AreStopped s old new before now lines last)
 
 -- a session over what the reader has: the input's lines are told, and the session says so by its
 -- end; and at any moment of it the file tells the history before it, or that behind some first

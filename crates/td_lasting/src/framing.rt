@@ -1,19 +1,15 @@
 //! The lines of a reader.
-ghost use Rattle.std.specs.Prelude.{◌≡◌, ◌↔◌, ◌<◌, ◌++◌, [], true, false, length, take, vec_len};
-ghost use Rattle.std.specs.Prelude.{IfErr, IfOk, IfSome, IsErrOf, IsTrue, OnErr, OnOk};
-ghost use Rattle.std.specs.Io.{ReadsAtMost};
-ghost use Rattle.std.specs.Io.KnownBytes.{Consumes, IsAtEnd};
-ghost use Rattle.std.specs.IoError.{error_kind};
+ghost use Rattle.std.specs.Prelude.{◌≡◌, ◌<◌, ◌++◌, [], true, false, length, vec_len};
+ghost use Rattle.std.specs.Prelude.{IfOk, IfSome, IsErrOf, OnOk};
 ghost use Rattle.td_lasting.specs.Framing.{Frames};
-ghost use Rattle.td_lasting.specs.inner.Inlets.{IsDropped, TellsLast, TellsNext, TellsWhole};
+ghost use Rattle.td_lasting.specs.inner.Inlets.{IsDropped, TellsLast, TellsNext, TellsWhole, Waits};
 ghost use Rattle.td_lasting.specs.inner.Served.{HasNoNewline};
 
+use crate::turns::{StreamFault, Turns};
 use memchr::memchr;
 use std::alloc::{AllocError, Global};
-use std::io;
-use std::io::ErrorKind;
 use std::marker::Model;
-use td_bytes::Reader;
+use td_bytes::Writer;
 use thiserror::Error;
 
 /// The longest line, in bytes without its newline.
@@ -55,6 +51,17 @@ impl From<AllocError> for FrameFault {
     }
 }
 
+impl From<StreamFault> for FrameFault {
+    ghost use Rattle.std.specs.Prelude.{◌≡◌};
+    ghost use Rattle.td_lasting.specs.declared.framing.FrameFault.TheVariants.{CannotRead};
+
+    ghost from_gives = { λ _ fault. fault ≡ CannotRead };
+
+    fn from(_fault: StreamFault) -> FrameFault {
+        FrameFault::CannotRead
+    }
+}
+
 /// What was read and isn't told of yet.
 #[derive(Drop)]
 pub(crate) struct Inlet {
@@ -90,34 +97,6 @@ fn frame(alloc: Global, line: &[u8]) -> Result<Framed, AllocError>
         Ok(text) => Ok(Framed::Whole(text)),
         Err(_) => Ok(Framed::NotText),
     }
-}
-
-// Whether a read failed by a signal.
-fn is_interrupted(error: &io::Error) -> bool
-    ensures { IsTrue result ↔ (error_kind error.now ≡ ErrorKind.Interrupted) }
-{
-    error.kind() == ErrorKind::Interrupted
-}
-
-// One read into a buffer, tried again where a signal interrupts it.
-fn read_piece<R: Reader>(reader: &mut R, buffer: &mut [u8]) -> Result<usize, FrameFault>
-    ensures bound { ReadsAtMost result buffer.new }
-    ensures ok { IfOk result (λ count. Consumes (R.remaining reader.old)
-        (R.remaining reader.new) (take count buffer.new)) }
-    ensures end { IfOk result (λ count.
-        count ≡ 0 → 0 < length buffer.old → IsAtEnd (R.remaining reader.new)) }
-    ensures due { OnErr result (R.can_fail reader.old ≡ true) }
-    ensures fault { IfErr result (λ fault. fault ≡ FrameFault.CannotRead) }
-    ensures steady { OnOk result (R.can_fail reader.new ≡ R.can_fail reader.old) }
-{
-    for tries in 0..u64::MAX {
-        match reader.read_once(buffer) {
-            Ok(count) => return Ok(count),
-            Err(error) if is_interrupted(&error) => {}
-            Err(_) => return Err(FrameFault::CannotRead),
-        }
-    }
-    Err(FrameFault::CannotRead)
 }
 
 impl Inlet {
@@ -197,24 +176,27 @@ impl Inlet {
     }
 
     /// The next line. Nothing is read while a whole line is there.
-    pub(crate) fn next<R: Reader>(
+    pub(crate) fn next<W: Writer, R: Turns<W>>(
         &mut self,
         reader: &mut R,
+        writer: &W,
         buffer: &mut [u8],
     ) -> Result<Option<Framed>, FrameFault>
-        requires { 0 < length buffer.old }
-        ensures tells { IfOk result (TellsNext self.old self.new (R.remaining reader.old)
-            (R.remaining reader.new)) }
+        requires room { 0 < length buffer.old }
+        requires turn { (r : R) → Waits self.old (R.left reader.old) (R.left r)
+            → R.is_turn r writer.now ≡ true }
+        ensures tells { IfOk result (TellsNext self.old self.new (R.left reader.old)
+            (R.left reader.new)) }
         ensures line { IfOk result (λ told. IfSome told HasNoNewline) }
-        ensures due { IsErrOf result FrameFault.CannotRead → R.can_fail reader.old ≡ true }
-        ensures steady { OnOk result (R.can_fail reader.new ≡ R.can_fail reader.old) }
+        ensures due { IsErrOf result FrameFault.CannotRead → R.may_fail reader.old ≡ true }
+        ensures steady { OnOk result (R.may_fail reader.new ≡ R.may_fail reader.old) }
     {
         for _ in 0..u64::MAX {
             if let Some(framed) = self.next_whole()? {
                 return Ok(Some(framed));
             }
             self.drop_told()?;
-            let count = read_piece(reader, buffer)?;
+            let count = reader.read_in_turn(writer, buffer)?;
             if count == 0 {
                 return Ok(self.last());
             }

@@ -4,7 +4,7 @@
 //! Start at `FileDesk`: `open` reads the file and goes on from the history that its lines tell,
 //! `answer` answers a line. A line is one of a script (`td_script`), or one of five more
 //! (`own_request`), by which builders take rows and say how their builds ended. `serve` reads lines
-//! from a reader and writes each answer before it reads on.
+//! from a reader and writes each answer before it reads on: `Turns` is such a reader.
 //! Promised: the answer to a line is `specs/DeskAnswers.antt` of the history that the lines before
 //! it leave; a line that is refused, or for which memory runs out, changes neither rows nor file;
 //! and whatever stops at whatever moment, the file opens, and tells the history of all answered
@@ -34,6 +34,7 @@ mod sending;
 mod serving;
 mod tale;
 mod terms;
+mod turns;
 
 pub use basis::header;
 pub use chronicle::DeskFault;
@@ -51,3 +52,4 @@ pub use order::priorities_decide;
 pub use own_request::{OwnRequest, OwnVerb, own_lines_are_exact, read_own_request};
 pub use serving::{ServeEnd, ServeFault, serve};
 pub use terms::Terms;
+pub use turns::{StreamFault, Turns};

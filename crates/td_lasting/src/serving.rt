@@ -1,15 +1,16 @@
 //! A session at a desk: line by line, each answered before the next is read.
 ghost use Rattle.std.specs.Prelude.{◌≡◌, true, false, IsErrOf, OnOk};
 ghost use Rattle.td_lasting.specs.inner.Served.{HasNoNewline, IsServedLine};
-ghost use Rattle.td_lasting.specs.Sessions.{IsServed};
+ghost use Rattle.td_lasting.specs.Sessions.{IsServed, IsTurn};
 ghost use Rattle.td_lasting.specs.Terms.{AreTerms, setting_of};
 
 use crate::chronicle::DeskFault;
 use crate::desk::FileDesk;
 use crate::framing::{FrameFault, Framed, Inlet};
 use crate::terms::Terms;
+use crate::turns::Turns;
 use std::alloc::{AllocError, Global};
-use td_bytes::{Reader, Writer, write_whole};
+use td_bytes::{Writer, write_whole};
 use td_ledger::Device;
 use thiserror::Error;
 
@@ -101,7 +102,7 @@ fn serve_line<D: Device, W: Writer>(
 
 /// Answers the lines that the reader has, each at once: the answer to a line is written when what
 /// it tells is on the disk, and before the next line is read.
-pub fn serve<D: Device, R: Reader, W: Writer>(
+pub fn serve<D: Device, W: Writer, R: Turns<W>>(
     alloc: Global,
     desk: &mut FileDesk<'_, D>,
     terms: &Terms<'_, '_, '_, '_, '_, '_, '_>,
@@ -110,9 +111,13 @@ pub fn serve<D: Device, R: Reader, W: Writer>(
 ) -> Result<ServeEnd, ServeFault>
     requires terms { AreTerms terms.now }
     requires running { desk.old.stopped ≡ false }
-    ensures served { IsServed (setting_of desk.old.stock terms.now) (R.remaining reader.old)
+    // More is read only when all whole lines that were read are answered.
+    requires turn { (r : R) → (w : W) → IsTurn (setting_of desk.old.stock terms.now)
+        desk.old.history (R.left reader.old) (R.left r) (W.contents writer.old) (W.contents w)
+        → R.is_turn r w ≡ true }
+    ensures served { IsServed (setting_of desk.old.stock terms.now) (R.left reader.old)
         (W.contents writer.old) (W.contents writer.new) desk.old desk.new result }
-    ensures unread { IsErrOf result ServeFault.CannotRead → R.can_fail reader.old ≡ true }
+    ensures unread { IsErrOf result ServeFault.CannotRead → R.may_fail reader.old ≡ true }
     ensures untold { IsErrOf result ServeFault.CannotTell → W.can_fail writer.old ≡ true }
 {
     // (`rows` says that the desk's file tells its history)
@@ -121,7 +126,7 @@ pub fn serve<D: Device, R: Reader, W: Writer>(
     let mut inlet = Inlet::new(alloc);
     let mut refusals = 0;
     for answered in 0..u64::MAX {
-        let Some(framed) = inlet.next(reader, buffer.as_mut_slice())? else {
+        let Some(framed) = inlet.next(reader, writer, buffer.as_mut_slice())? else {
             return Ok(ServeEnd { refusals });
         };
         if serve_line(alloc, desk, terms, &framed, writer)? {

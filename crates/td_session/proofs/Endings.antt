@@ -1,11 +1,11 @@
 -- How a session ends, layer by layer.
-use Rattle.std.proofs.Common.{◌≡◌, ℕ, Bool, List, Option, Some, None, Result, Ok, Err, IsTrue}
+use Rattle.std.proofs.Common.{◌≡◌, ℕ, List, Option, Some, None, Result, Ok, Err, IsTrue}
 use Rattle.std.proofs.Common.{IfErr}
 use Rattle.std.proofs.Common.{refl, sym, subst}
 use Rattle.std.specs.Io.KnownBytes.{Keeps}
 use Rattle.td_rows.specs.Table.{Table}
 use Rattle.td_indices.specs.Archive.{Contents}
-use Rattle.td_inputs.specs.Inputs.{AreReadable, IsRefused, Texts}
+use Rattle.td_inputs.specs.Inputs.{Texts}
 use Rattle.td_ledger.specs.Calls.{Known}
 use Rattle.td_script.specs.Replies.{Setting}
 use Rattle.td_lasting.specs.Basis.{header_of}
@@ -15,30 +15,20 @@ use Rattle.td_lasting.specs.Sessions.{IsServed}
 use Rattle.td_lasting.specs.declared.serving.ServeEnd.{ServeEnd}
 use Rattle.td_lasting.specs.declared.serving.ServeFault.{ServeFault}
 use Rattle.td_lasting.specs.declared.serving.ServeFault.TheVariants as serve
-use Rattle.td_session.specs.declared.desk_file.OpenRefusal.{OpenRefusal}
 use Rattle.td_session.specs.declared.fault.SessionFault.{SessionFault}
 use Rattle.td_session.specs.declared.fault.SessionFault.TheVariants.{Input, NoMemory, Unopened}
 use Rattle.td_session.specs.declared.fault.SessionFault.TheVariants.{File, Serve}
 use Rattle.td_session.specs.Grounds.{IsGround}
-use Rattle.td_session.specs.Sessions.{ComesFirst, Ends, EndsAt, IsDue, MayRefuse}
+use Rattle.td_session.specs.Sessions.{ComesFirst, Ends, EndsAt, IsTurnAt, IsTurnOver}
+use Rattle.td_session.specs.Sessions.{MayRefuse}
 use Rattle.td_session.specs.inner.Holding.{AreServed, end_of_served}
-use Rattle.td_session.specs.inner.Judging.{IsPatternOr, IsRefusalOf, IsUngrounded}
+use Rattle.td_session.specs.inner.Judging.{IsRefusalOf, IsUngrounded}
 
 pub keeps-same : (o : Option (List ℕ)) → Keeps o o
 keeps-same None = tt
 keeps-same (Some xs) = refl
 
 -- ---- 1. the lines
-
--- a failure of a stream is told only if that may fail
-pub due_served : (refuses : OpenRefusal → Bool) (reads writes : Bool)
-    (r : Result ServeEnd ServeFault) → (r ≡ Err serve.CannotRead → IsTrue reads)
-    → (r ≡ Err serve.CannotTell → IsTrue writes) → IsDue refuses reads writes (end_of_served r)
-due_served refuses reads writes (Ok end) unread untold = tt
-due_served refuses reads writes (Err serve.CannotRead) unread untold = unread refl
-due_served refuses reads writes (Err serve.CannotKeep) unread untold = tt
-due_served refuses reads writes (Err serve.CannotTell) unread untold = untold refl
-due_served refuses reads writes (Err serve.NoMemory) unread untold = tt
 
 module _ (header : List ℕ) (rows : Table) (s : Setting) (found : Known)
     (known left old new : Option (List ℕ)) where
@@ -130,6 +120,19 @@ module _ (x : Texts) (c : Contents) (rows : Table) (s : Setting) (found : Known)
       with_ground end ground
       (subst (λ (h : List ℕ). EndsAt h rows s found last known left old new end) is ends)
 
+-- more may be read at a desk over what the texts say
+pub turn_over : (x : Texts) (c : Contents) (rows : Table) (s : Setting) (found : Known)
+    (known left old new : Option (List ℕ)) (header : List ℕ) → header ≡ header_of c rows
+    → IsGround x c rows s → IsTurnAt header rows s found known left old new
+    → IsTurnOver x found known left old new
+turn_over x c rows s found known left old new header is ground turn = (
+  c,
+  rows,
+  s,
+  ground,
+  subst (λ (h : List ℕ). IsTurnAt h rows s found known left old new) is turn,
+)
+
 -- ---- 3. without a ground
 
 module _ (x : Texts) (found : Known) (known old : Option (List ℕ)) where
@@ -148,30 +151,3 @@ module _ (x : Texts) (found : Known) (known old : Option (List ℕ)) where
       subst (λ (l : Option Known). Ends x found l known known old old end) (sym is)
       (subst (λ (e : Result ServeEnd SessionFault). Ends x found None known known old old e)
       (sym none.end_is) (refused_for none.fault none.refused))
-
-may_refuse : (x : Texts) (fault : SessionFault) → IsPatternOr x fault → MayRefuse x fault
-may_refuse x (Input e) h = h
-may_refuse x NoMemory h = tt
-may_refuse x (Unopened e) h = tt
-may_refuse x (File e) h = tt
-may_refuse x (Serve e) h = tt
-
-pub refused_only : (x : Texts) (end : Result ServeEnd SessionFault) → IsUngrounded x end
-    → AreReadable x → IfErr end (MayRefuse x)
-refused_only x end none readable =
-    subst (λ (e : Result ServeEnd SessionFault). IfErr e (MayRefuse x)) (sym none.end_is)
-    (may_refuse x none.fault (none.only readable))
-
-due_for : (refuses : OpenRefusal → Bool) (reads writes : Bool) (x : Texts) (fault : SessionFault)
-    → IsRefusalOf x fault → IsDue refuses reads writes (Err fault)
-due_for refuses reads writes x (Input e) h = tt
-due_for refuses reads writes x NoMemory h = tt
-due_for refuses reads writes x (Unopened e) h = absurd h
-due_for refuses reads writes x (File e) h = absurd h
-due_for refuses reads writes x (Serve e) h = absurd h
-
-pub refused_due : (refuses : OpenRefusal → Bool) (reads writes : Bool) (x : Texts)
-    (end : Result ServeEnd SessionFault) → IsUngrounded x end → IsDue refuses reads writes end
-refused_due refuses reads writes x end none =
-    subst (IsDue refuses reads writes) (sym none.end_is)
-    (due_for refuses reads writes x none.fault none.refused)

@@ -7,9 +7,7 @@ use Rattle.td_rows.specs.StateFile.{IsStateFile}
 use Rattle.td_rows.specs.Table.{Table}
 use Rattle.td_core.specs.Phases.{NoneBuilt}
 use Rattle.td_supply.specs.Supply.{stock_of}
-use Rattle.td_relation.specs.Arch.{ArchWords}
-use Rattle.td_relation.specs.TableFile.{IsTable}
-use Rattle.td_indices.specs.Archive.{Contents, IsArchive}
+use Rattle.td_indices.specs.Archive.{Contents}
 use Rattle.td_inputs.specs.Inputs.{AreOpened, AreRowsOf, IsArchiveOf, Texts}
 use Rattle.td_inputs.proofs.OpeningLaws.{replaced_rows}
 use Rattle.td_inputs.proofs.StateLaws.{state_put}
@@ -29,15 +27,6 @@ put_over c rows new given state text opened idle is file only over none =
     let put = state_put rows text (Ok given) (Ok new) idle file only tt (over, none) tt in
     let rows_given = replaced_rows c rows state text new opened is put.rows put.idle in
     (given_are c state new rows_given, given_idle c state new rows_given)
-
--- an archive that was read with the table that the texts' own is
-pub archive_of : (x : Texts) (t : List ArchWords) (c : Contents) → IsTable (lines_of x.archs) t
-    → IsArchive t (lines_of x.packages) (lines_of x.sources) c → IsArchiveOf x c
-archive_of x t c is_table is = record {
-  is_table = subst (IsTable (lines_of x.archs)) (sym is.same_table) is_table;
-  is_archive = subst (λ (u : List ArchWords).
-      IsArchive u (lines_of x.packages) (lines_of x.sources) c) (sym is.same_table) is;
-}
 
 -- reports come with a tracker
 pub no_reports : (c : Contents) (tracker : Option (List ℕ)) → tracker ≡ None

@@ -1,8 +1,8 @@
 -- The keys of the rows with which a desk opens over an archive can be written.
-use Rattle.std.proofs.Common.{◌≡◌, ◌+◌, ◌<◌, ℕ, Bool, true, false, not, ltb, cond, List, [], ◌∷◌}
-use Rattle.std.proofs.Common.{Option, Some, None, IsTrue, Ok, length, refl, sym, ap, ◌∙◌, subst}
+use Rattle.std.proofs.Common.{◌≡◌, ◌+◌, ◌<◌, ℕ, true, not, ltb, cond, List, [], ◌∷◌}
+use Rattle.std.proofs.Common.{Option, Some, None, length, refl, sym, ap, ◌∙◌, subst}
 use Rattle.std.proofs.Common.{inl}
-use Rattle.std.proofs.Common.{inr, arith, suc}
+use Rattle.std.proofs.Common.{inr, arith}
 use Rattle.std.specs.List.{AllByRecursion, find, prefix_len}
 use Rattle.std.specs.Str.{bytes_eq}
 use Rattle.std.proofs.lemmas.Bool.{and_parts, cases_Bool, ltb-true}
@@ -14,13 +14,11 @@ use Rattle.td_rows.specs.declared.key.Key.{Key}
 use Rattle.td_rows.specs.declared.row.Row.{Row}
 use Rattle.td_rows.specs.KeyText.{KeyFits}
 use Rattle.td_rows.specs.Keys.{same_key}
-use Rattle.td_rows.specs.Overlay.{overlaid}
-use Rattle.td_rows.specs.Table.{Table, each_row, keys_of, row_of}
+use Rattle.td_rows.specs.Table.{Table, keys_of, row_of}
 use Rattle.td_rows.proofs.Keys.{same_key-refl}
 use Rattle.td_rows.proofs.Tables.{keys_of-each_row}
 use Rattle.td_indices.specs.Archive.{Contents, source_named}
 use Rattle.td_indices.specs.Opening.{opening_at, opening_on, opening_row}
-use Rattle.td_indices.specs.Reading.{sources_at}
 use Rattle.td_indices.specs.Sources.{KeptSource, kept_source_at, lower_source, same_source}
 use Rattle.td_indices.specs.declared.archive_fault.IndexFile.TheVariants.{Sources}
 use Rattle.td_indices.proofs.LegalNames.{all_over}

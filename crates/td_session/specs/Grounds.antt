@@ -1,5 +1,5 @@
 -- Over what a session is held: what the texts of an archive's files say. This project's own.
-use Rattle.std.specs.Prelude.{◌≡◌, ℕ, List, [], ◌∷◌, None, Option, option_map, string_bytes}
+use Rattle.std.specs.Prelude.{◌≡◌, [], ◌∷◌, None, option_map, string_bytes}
 use Rattle.td_rows.specs.Table.{Table}
 use Rattle.td_indices.specs.Archive.{Contents}
 use Rattle.td_indices.specs.Supplying.{supply_of}

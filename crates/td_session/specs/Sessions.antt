@@ -11,7 +11,7 @@ use Rattle.td_script.specs.Replies.{Setting}
 use Rattle.td_lasting.specs.Basis.{header_of}
 use Rattle.td_lasting.specs.DeskView.{DeskView}
 use Rattle.td_lasting.specs.Opened.{IsFaultOf, IsOpened, LosesNothing}
-use Rattle.td_lasting.specs.Sessions.{IsServed}
+use Rattle.td_lasting.specs.Sessions.{IsServed, IsTurn}
 use Rattle.td_lasting.specs.declared.file_fault.FileFault.{FileFault}
 use Rattle.td_lasting.specs.declared.file_fault.FileFault.TheVariants as file
 use Rattle.td_lasting.specs.declared.serving.ServeEnd.{ServeEnd}
@@ -21,7 +21,7 @@ use Rattle.td_session.specs.declared.desk_file.OpenRefusal.{OpenRefusal}
 use Rattle.td_session.specs.declared.fault.SessionFault.{SessionFault}
 use Rattle.td_session.specs.declared.fault.SessionFault.TheVariants.{Input, NoMemory, Unopened}
 use Rattle.td_session.specs.declared.fault.SessionFault.TheVariants.{File, Serve}
-use Rattle.td_session.specs.Grounds.{HaveGround, IsGround}
+use Rattle.td_session.specs.Grounds.{IsGround}
 
 -- ---- 1. at one desk
 
@@ -67,6 +67,13 @@ EndsAt header rows s found last known left old new (Err (File e)) =
 EndsAt header rows s found last known left old new (Err (Serve e)) =
     IsLeft last (λ d. IsAnswered header rows s found d known old new (Err e))
 
+-- at the desk of a file that opens so, more may be read: all that was read is answered
+pub record IsTurnAt (header : List ℕ) (rows : Table) (s : Setting) (found : Known)
+    (known left old new : Option (List ℕ)) : Type 0 where
+  pub opened : DeskView
+  pub opens : IsOpened header rows s.stock found opened
+  pub turn : IsTurn s opened.history known left old new
+
 -- ---- 2. over texts
 
 -- a session over what the texts say ends so
@@ -91,6 +98,13 @@ Ends x found last known left old new (Err (File e)) =
     EndsOver x found last known left old new (Err (File e))
 Ends x found last known left old new (Err (Serve e)) =
     EndsOver x found last known left old new (Err (Serve e))
+
+-- over what the texts say, more may be read
+abbrev pub IsTurnOver : Texts → Known → Option (List ℕ) → Option (List ℕ) → Option (List ℕ)
+    → Option (List ℕ) → Type 0
+IsTurnOver x found known left old new =
+    (c : Contents) × (rows : Table) × (s : Setting) × IsGround x c rows s
+    × IsTurnAt (header_of c rows) rows s found known left old new
 
 -- the place of the desk's file isn't touched before this fault
 abbrev pub ComesFirst : SessionFault → Type 0

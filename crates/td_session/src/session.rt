@@ -1,10 +1,10 @@
 //! A session over the texts of files: they are judged, then the desk's file is opened, then lines
 //! are answered.
-ghost use Rattle.std.specs.Prelude.{◌≡◌, IfErr, None, Some, option_map};
+ghost use Rattle.std.specs.Prelude.{◌≡◌, IfErr, None, Some, option_map, true};
 ghost use Rattle.td_query.specs.Tracking.{IsTracker, tracking};
 ghost use Rattle.td_inputs.specs.Inputs.{AreReadable, IsArchiveOf};
 ghost use Rattle.td_session.specs.Grounds.{texts_of};
-ghost use Rattle.td_session.specs.Sessions.{ComesFirst, Ends, IsDue, MayRefuse};
+ghost use Rattle.td_session.specs.Sessions.{ComesFirst, Ends, IsDue, IsTurnOver, MayRefuse};
 ghost use Rattle.td_session.specs.inner.Grounding.{IsGroundOf};
 ghost use Rattle.td_session.specs.inner.Judging.{IsUngrounded};
 
@@ -19,9 +19,10 @@ use crate::texts::SessionTexts;
 use std::alloc::{AllocError, Global};
 use std::mem;
 use std::thread::Threads;
-use td_bytes::{Reader, Writer};
+use td_bytes::Writer;
 use td_indices::Archive;
 use td_inputs::{GivenTracker, given_text};
+use td_lasting::Turns;
 use td_ledger::Device;
 use td_query::Tracker;
 use td_relation::Archs;
@@ -44,7 +45,7 @@ struct Session<'s> {
 
 impl Session<'_> {
     // A session over the archive that the texts are, with the reports of their tracker.
-    fn hold_tracked<F: DeskFile, R: Reader, W: Writer>(
+    fn hold_tracked<F: DeskFile, W: Writer, R: Turns<W>>(
         &self,
         rt: &(impl Threads + Sync),
         archive: &Archive<'_, '_>,
@@ -58,14 +59,17 @@ impl Session<'_> {
         requires ground { IsGroundOf (texts_of self.now.texts.now) archive.now ground }
         requires given { (texts_of self.now.texts.now).tracker ≡ Some given.now.text.now }
         requires tracker { IsTracker given.now.text.now (tracking given.now.tracker) }
+        requires turn { (r : R) → (w : W) → IsTurnOver (texts_of self.now.texts.now)
+            (F.found file.old) (R.left reader.old) (R.left r) (W.contents writer.old)
+            (W.contents w) → R.is_turn r w ≡ true }
         ensures ends { Ends (texts_of self.now.texts.now) (F.found file.old)
             (option_map F.Opened.known result.file)
-            (R.remaining reader.old) (R.remaining reader.new)
+            (R.left reader.old) (R.left reader.new)
             (W.contents writer.old) (W.contents writer.new) result.end }
         ensures untouched { IfErr result.end (λ e.
             ComesFirst e → F.is_touched file.new ≡ F.is_touched file.old) }
         ensures only { IfErr result.end (MayRefuse (texts_of self.now.texts.now)) }
-        ensures due { IsDue (F.can_refuse file.old) (R.can_fail reader.old)
+        ensures due { IsDue (F.can_refuse file.old) (R.may_fail reader.old)
             (W.can_fail writer.old) result.end }
     {
         match Transition::of(rt, self.alloc, archive, &given.tracker, given.text) {
@@ -83,7 +87,7 @@ impl Session<'_> {
     }
 
     // A session over the archive that the texts are.
-    fn hold_over<F: DeskFile, R: Reader, W: Writer>(
+    fn hold_over<F: DeskFile, W: Writer, R: Turns<W>>(
         &self,
         rt: &(impl Threads + Sync),
         archive: &Archive<'_, '_>,
@@ -91,16 +95,19 @@ impl Session<'_> {
         reader: &mut R,
         writer: &mut W,
     ) -> Held<F::Opened>
-        requires { IsArchiveOf (texts_of self.now.texts.now) archive.now }
+        requires archive { IsArchiveOf (texts_of self.now.texts.now) archive.now }
+        requires turn { (r : R) → (w : W) → IsTurnOver (texts_of self.now.texts.now)
+            (F.found file.old) (R.left reader.old) (R.left r) (W.contents writer.old)
+            (W.contents w) → R.is_turn r w ≡ true }
         ensures ends { Ends (texts_of self.now.texts.now) (F.found file.old)
             (option_map F.Opened.known result.file)
-            (R.remaining reader.old) (R.remaining reader.new)
+            (R.left reader.old) (R.left reader.new)
             (W.contents writer.old) (W.contents writer.new) result.end }
         ensures untouched { IfErr result.end (λ e.
             ComesFirst e → F.is_touched file.new ≡ F.is_touched file.old) }
         ensures only { AreReadable (texts_of self.now.texts.now)
             → IfErr result.end (MayRefuse (texts_of self.now.texts.now)) }
-        ensures due { IsDue (F.can_refuse file.old) (R.can_fail reader.old)
+        ensures due { IsDue (F.can_refuse file.old) (R.may_fail reader.old)
             (W.can_fail writer.old) result.end }
     {
         let Some(ground) = ground_over(self.alloc, self.texts, archive) else {
@@ -120,8 +127,9 @@ impl Session<'_> {
 
 /// Holds a session: judges the texts as before a script, in the order of the table, the indices,
 /// the state file and the tracker; then opens the desk's file, or makes it; then answers the lines
-/// that the reader has, each at once, and writes an answer only when what it tells is on the disk.
-pub fn hold_session<F: DeskFile, R: Reader, W: Writer>(
+/// that the reader has, each before the next is read, and writes an answer only when what it tells
+/// is on the disk.
+pub fn hold_session<F: DeskFile, W: Writer, R: Turns<W>>(
     rt: &(impl Threads + Sync),
     alloc: Global,
     texts: &SessionTexts,
@@ -129,8 +137,12 @@ pub fn hold_session<F: DeskFile, R: Reader, W: Writer>(
     reader: &mut R,
     writer: &mut W,
 ) -> Held<F::Opened>
+    // More is read only when all whole lines that were read are answered.
+    requires turn { (r : R) → (w : W) → IsTurnOver (texts_of texts.now) (F.found file.old)
+        (R.left reader.old) (R.left r) (W.contents writer.old) (W.contents w)
+        → R.is_turn r w ≡ true }
     ensures ends { Ends (texts_of texts.now) (F.found file.old)
-        (option_map F.Opened.known result.file) (R.remaining reader.old) (R.remaining reader.new)
+        (option_map F.Opened.known result.file) (R.left reader.old) (R.left reader.new)
         (W.contents writer.old) (W.contents writer.new) result.end }
     // Where a text is refused, no file is made or opened.
     ensures untouched { IfErr result.end (λ e.
@@ -138,7 +150,7 @@ pub fn hold_session<F: DeskFile, R: Reader, W: Writer>(
     // Readable texts are refused only if memory runs out or `regex` refuses a pattern.
     ensures only { AreReadable (texts_of texts.now)
         → IfErr result.end (MayRefuse (texts_of texts.now)) }
-    ensures due { IsDue (F.can_refuse file.old) (R.can_fail reader.old) (W.can_fail writer.old)
+    ensures due { IsDue (F.can_refuse file.old) (R.may_fail reader.old) (W.can_fail writer.old)
         result.end }
 {
     let Ok(archs) = Archs::read(alloc, texts.archs.as_str()) else {

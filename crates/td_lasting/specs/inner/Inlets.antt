@@ -88,3 +88,19 @@ StillLeft old new None now = Unit {0}
 StillLeft old new (Some before) None = ⊥
 StillLeft old new (Some before) (Some now) =
     (left : List ℕ) → IsLeft old before left → IsLeft new now left
+
+-- ---- while no line is told of
+
+-- what was read meanwhile makes no whole line of what is ahead
+abbrev pub Waits : InletView → Option (List ℕ) → Option (List ℕ) → Type 0
+Waits v None now = Unit {0}
+Waits v (Some before) None = ⊥
+Waits v (Some before) (Some now) =
+    (piece : List ℕ) × (before ≡ piece ++ now) × IsLine (v.ahead ++ piece)
+
+-- it makes none if none is ahead now
+abbrev pub StillWaits : InletView → InletView → Option (List ℕ) → Option (List ℕ) → Type 0
+StillWaits old new None now = Unit {0}
+StillWaits old new (Some before) None = ⊥
+StillWaits old new (Some before) (Some now) = (piece : List ℕ) × (before ≡ piece ++ now)
+    × (IsLine new.ahead → IsLine (old.ahead ++ piece))

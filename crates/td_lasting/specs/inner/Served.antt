@@ -1,5 +1,5 @@
 -- What the answering of one line of a session comes to. This project's own.
-use Rattle.std.specs.Prelude.{◌≡◌, ℕ, Bool, true, false, List, Option, Result, IfErr, IfOk, IsTrue}
+use Rattle.std.specs.Prelude.{◌≡◌, ◌⊎◌, ℕ, Bool, true, false, List, Option, Result, IfErr, IfOk, IsTrue}
 use Rattle.std.specs.Prelude.{string_bytes}
 use Rattle.std.specs.Io.KnownBytes.{Appends}
 use Rattle.td_text.specs.Cut.{Without}
@@ -12,7 +12,7 @@ use Rattle.td_lasting.specs.declared.framing.Framed.TheVariants.{Whole}
 use Rattle.td_lasting.specs.declared.serving.ServeFault.{ServeFault}
 use Rattle.td_lasting.specs.declared.serving.ServeFault.TheVariants.{CannotRead, CannotKeep}
 use Rattle.td_lasting.specs.declared.serving.ServeFault.TheVariants.{CannotTell, NoMemory}
-use Rattle.td_lasting.specs.DeskView.{DeskView, TellsUpTo}
+use Rattle.td_lasting.specs.DeskView.{DeskView, IsTooLong, TellsUpTo}
 use Rattle.td_lasting.specs.Sessions.{framed_answer, framed_events}
 
 -- no newline stands in a line that is told of
@@ -27,6 +27,7 @@ pub record IsLineTold (s : Setting) (framed : Framed) (old new : DeskView)
   pub history : new.history ≡ (framed_answer s old.history framed).after
   pub refusal : refused ≡ (framed_answer s old.history framed).refused
   pub running : new.stopped ≡ false
+  pub steady : new.device.can_fail ≡ old.device.can_fail
 
 -- the session ends at the line: it isn't kept, or its answer is written in part, or memory ran out
 -- and nothing is changed
@@ -34,6 +35,8 @@ abbrev pub IsLineLost : Setting → Framed → DeskView → DeskView → Option 
     → ServeFault → Type 0
 IsLineLost s framed old new before now CannotRead = ⊥
 IsLineLost s framed old new before now CannotKeep = (now ≡ before) × (new.stopped ≡ true)
+    × (IsTrue old.device.honest → (old.device.can_fail ≡ true)
+    ⊎ IsTooLong old.device old.history (framed_events s old.history framed))
 IsLineLost s framed old new before now CannotTell =
     AppendsPrefix before now (framed_answer s old.history framed).text
     × (new.history ≡ (framed_answer s old.history framed).after)

@@ -1,5 +1,5 @@
 -- `put_asked`: a row and an entry.
-use Rattle.std.proofs.Common.{List, ℕ, Option, sym, ap, subst, ◌∙◌}
+use Rattle.std.proofs.Common.{List, Option, sym, ap, subst, ◌∙◌}
 use Rattle.std.specs.String.{string_bytes}
 use Rattle.std.proofs.lemmas.Result.{IfOk-weaker}
 use Rattle.td_rows.specs.declared.row.Row.{Row}

@@ -1,5 +1,5 @@
 -- `put_ready`: an architecture that the table hasn't is refused, else the rows are told.
-use Rattle.std.proofs.Common.{◌≡◌, ℕ, List, Option, length, ap, sym, option_map, ◌∙◌}
+use Rattle.std.proofs.Common.{ℕ, List, Option, length, ap, sym, option_map, ◌∙◌}
 use Rattle.std.specs.Prelude.{slice_get}
 use Rattle.std.specs.Borrow.{Bor}
 use Rattle.std.specs.List.{filter_map}

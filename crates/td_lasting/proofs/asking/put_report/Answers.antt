@@ -5,7 +5,6 @@ use Rattle.std.specs.Prelude.{IfSome, codes}
 use Rattle.std.specs.Borrow.{Bor}
 use Rattle.std.specs.String.{string_bytes}
 use Rattle.std.proofs.lemmas.Result.{IfOk-weaker}
-use Rattle.td_rows.specs.Table.{Table}
 use Rattle.td_report.specs.TransitionView.{IsMade, contents_of, depth_of, level_of, tracking_of}
 use Rattle.td_report.specs.declared.transition.Transition.{Transition}
 use Rattle.td_script.specs.Replies.{reports}

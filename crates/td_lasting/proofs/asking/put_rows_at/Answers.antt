@@ -1,5 +1,5 @@
 -- `put_rows_at`: the line of one row more.
-use Rattle.std.proofs.Common.{◌≡◌, ◌++◌, ◌∷◌, [], List, ℕ, ap, sym, ◌∙◌}
+use Rattle.std.proofs.Common.{◌++◌, ◌∷◌, [], List, ℕ, ap, sym, ◌∙◌}
 use Rattle.std.specs.String.{string_bytes}
 use Rattle.td_lasting.proofs.ReadyOrder.{lines_next, lines_same}
 use Rattle.td_lasting.proofs.asking.put_rows_at.Goals as goal

@@ -1,10 +1,8 @@
 -- `ready`: a row more is looked at; what the sort leaves.
-use Rattle.std.proofs.Common.{◌≡◌, ◌<◌, ◌≤◌, ◌∷◌, ◌++◌, [], ℕ, List, Option, Some, ap, sym, ◌∙◌}
+use Rattle.std.proofs.Common.{◌<◌, ◌≤◌, ℕ, List, Option, ap, sym, ◌∙◌}
 use Rattle.std.proofs.Common.{arith, length, option_map}
 use Rattle.std.specs.Borrow.{Bor}
 use Rattle.std.proofs.lemmas.List.{take_all}
-use Rattle.td_rows.specs.declared.key.Key.{Key}
-use Rattle.td_rows.specs.declared.row.Row.{Row}
 use Rattle.td_rows.proofs.Lists.{slice_get-none}
 use Rattle.td_lasting.specs.Ready.{by_priority, queued_on}
 use Rattle.td_lasting.proofs.ReadyOrder.{ready_pass, ready_push, sorted_each}

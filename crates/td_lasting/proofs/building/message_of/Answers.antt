@@ -1,5 +1,5 @@
 -- `message_of`: the entry that is looked at has the message, or it is sought before that.
-use Rattle.std.proofs.Common.{◌≡◌, ◌-◌, ◌+◌, ◌<◌, ℕ, List, Some, true, false, ap, sym, ◌∙◌, arith}
+use Rattle.std.proofs.Common.{◌≡◌, ◌-◌, ◌+◌, ℕ, List, Some, true, false, ap, sym, ◌∙◌, arith}
 use Rattle.std.proofs.Common.{length, take}
 use Rattle.std.specs.Prelude.{slice_get}
 use Rattle.td_rows.specs.declared.key.Key.{Key}

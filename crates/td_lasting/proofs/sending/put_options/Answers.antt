@@ -1,5 +1,5 @@
 -- `put_options`: with a dot or without, then option by option.
-use Rattle.std.proofs.Common.{◌≡◌, ◌++◌, [], List, ℕ, ap, sym, append-nil, ◌∙◌}
+use Rattle.std.proofs.Common.{[], ap, sym, append-nil, ◌∙◌}
 use Rattle.std.specs.String.{string_bytes}
 use Rattle.td_rows.specs.Appending.{Grown}
 use Rattle.td_rows.proofs.Appends.{grown_by, grown_by_nothing, grown_twice}

@@ -1,5 +1,5 @@
 -- `put_standing`: an entry more; and what is written where nothing stands.
-use Rattle.std.proofs.Common.{◌≡◌, ◌≢◌, ◌<◌, ◌&&◌, ℕ, List, Bool, true, false, Some, map, length}
+use Rattle.std.proofs.Common.{◌≡◌, ◌&&◌, ℕ, List, Bool, true, false, Some, map, length}
 use Rattle.std.proofs.Common.{ap}
 use Rattle.std.proofs.Common.{arith, refl, sym, ◌+◌, ◌++◌, ◌∙◌}
 use Rattle.std.proofs.lemmas.List.{take_all}
@@ -9,7 +9,6 @@ use Rattle.std.specs.Prelude.{slice_get}
 use Rattle.std.specs.String.{string_bytes}
 use Rattle.td_core.specs.Offers.{supply_now}
 use Rattle.td_journal.specs.Commands.{is_command}
-use Rattle.td_journal.specs.Entries.{is_standing}
 use Rattle.td_journal.specs.declared.entry.Marked.{Marked}
 use Rattle.td_lasting.specs.Sending.{is_sent, sent_from, sent_lines}
 use Rattle.td_lasting.proofs.Messages.{read_at}

@@ -12,7 +12,7 @@ use Rattle.td_lasting.specs.Terms.{setting_of}
 use Rattle.td_lasting.specs.inner.Inlets.{InletView, TellsNext}
 use Rattle.td_lasting.specs.inner.Served.{IsServedLine}
 use Rattle.td_lasting.proofs.SessionSteps.{all_served, line_lost, line_served, none_read}
-use Rattle.td_lasting.proofs.SessionSteps.{none_served}
+use Rattle.td_lasting.proofs.SessionSteps.{none_served, turn_at}
 use Rattle.td_lasting.proofs.serving.serve.Goals as goal
 use Rattle.td_lasting.proofs.serving.serve.Goals.{then-branch, else-branch}
 
@@ -39,7 +39,7 @@ pub returns-in_err-buffer-clause-served : goal.returns-in_err-buffer-clause-serv
 returns-in_err-buffer-clause-served g c =
     let v = c.args.desk.now in
     let s = setting_of v.stock c.args.terms.now in
-    let input = g.R.Read.remaining c.args.reader.now in
+    let input = g.R.Turns.left c.args.reader.now in
     let before = g.W.Write.contents c.args.writer.now in
     let empty : InletView = record { ahead = []; long = false } in
     let p = err_from_is_err_and c.from_residual.result c.from_residual.ensures.1 in
@@ -53,7 +53,7 @@ loop-answered-init g c =
     let v = c.args.desk.now in
     record {
       served = none_served (setting_of v.stock c.args.terms.now)
-          (g.R.Read.remaining c.args.reader.now) c.new-inlet.result v
+          (g.R.Turns.left c.args.reader.now) c.new-inlet.result v
           (g.W.Write.contents c.args.writer.now) c.new-inlet.ensures.ahead
           c.new-inlet.ensures.long c.rows-rows.ensures.rest c.requires.running;
       stock = refl;
@@ -65,28 +65,38 @@ loop-answered-init g c =
       room = c.in_ok-buffer.ensures;
     }
 
+pub next-requires-clause-turn : goal.next-requires-clause-turn
+next-requires-clause-turn g c = λ r waits.
+    let l = c.loop-answered in
+    let v = c.args.desk.now in
+    c.requires.turn r l.writer
+    (turn_at (setting_of v.stock c.args.terms.now) (g.R.Turns.left c.args.reader.now)
+    (g.R.Turns.left l.reader) (g.R.Turns.left r) l.inlet v l.desk
+    (g.W.Write.contents c.args.writer.now) (g.W.Write.contents l.writer) l.refusals
+    l.invariant.served waits)
+
 pub returns-in_err-framed-clause-served : goal.returns-in_err-framed-clause-served
 returns-in_err-framed-clause-served g c =
     let l = c.loop-answered in
     let v = c.args.desk.now in
     let s = setting_of v.stock c.args.terms.now in
-    let input = g.R.Read.remaining c.args.reader.now in
+    let input = g.R.Turns.left c.args.reader.now in
     let before = g.W.Write.contents c.args.writer.now in
     let now = g.W.Write.contents l.writer in
     let p = err_from_is_err_and c.from_residual-in_err-framed.result
     c.from_residual-in_err-framed.ensures.1 in
     subst (λ (r : Result ServeEnd ServeFault). IsServed s input before now v l.desk r)
     (sym (p.1 ∙ ap (λ (f : ServeFault). Err f) p.2))
-    (none_read c.args.alloc s input (g.R.Read.remaining l.reader) l.inlet v l.desk before now
+    (none_read c.args.alloc s input (g.R.Turns.left l.reader) l.inlet v l.desk before now
     l.refusals c.in_err-framed.field-0.0 l.invariant.served)
 
 pub returns-in_default-clause-served : goal.returns-in_default-clause-served
 returns-in_default-clause-served g c =
     let l = c.loop-answered in
     let v = c.args.desk.now in
-    let remaining = g.R.Read.remaining l.reader in
-    let later = g.R.Read.remaining c.next.new.reader in
-    all_served (setting_of v.stock c.args.terms.now) (g.R.Read.remaining c.args.reader.now)
+    let remaining = g.R.Turns.left l.reader in
+    let later = g.R.Turns.left c.next.new.reader in
+    all_served (setting_of v.stock c.args.terms.now) (g.R.Turns.left c.args.reader.now)
     remaining later l.inlet c.next.new.self v l.desk (g.W.Write.contents c.args.writer.now)
     (g.W.Write.contents l.writer) (record { refusals = l.refusals })
     (subst (λ (o : Option Framed). TellsNext l.inlet c.next.new.self remaining later o)
@@ -98,9 +108,9 @@ returns-in_err-serve_line-clause-served g c =
     let l = c.loop-answered in
     let v = c.args.desk.now in
     let s = setting_of v.stock c.args.terms.now in
-    let input = g.R.Read.remaining c.args.reader.now in
-    let remaining = g.R.Read.remaining l.reader in
-    let later = g.R.Read.remaining c.next.new.reader in
+    let input = g.R.Turns.left c.args.reader.now in
+    let remaining = g.R.Turns.left l.reader in
+    let later = g.R.Turns.left c.next.new.reader in
     let before = g.W.Write.contents c.args.writer.now in
     let told = g.W.Write.contents l.writer in
     let after = g.W.Write.contents c.serve_line.new.writer in
@@ -124,8 +134,8 @@ pub loop-answered-preserved : goal.loop-answered-preserved
 loop-answered-preserved g c =
     let l = c.loop-answered in
     let v = c.args.desk.now in
-    let remaining = g.R.Read.remaining l.reader in
-    let later = g.R.Read.remaining c.next.new.reader in
+    let remaining = g.R.Turns.left l.reader in
+    let later = g.R.Turns.left c.next.new.reader in
     let told = g.W.Write.contents l.writer in
     let after = g.W.Write.contents c.serve_line.new.writer in
     let framed = c.in-Some.framed in
@@ -141,7 +151,7 @@ loop-answered-preserved g c =
     ] in
     record {
       served = line_served (setting_of v.stock c.args.terms.now)
-          (g.R.Read.remaining c.args.reader.now) remaining later l.inlet c.next.new.self v l.desk
+          (g.R.Turns.left c.args.reader.now) remaining later l.inlet c.next.new.self v l.desk
           new (g.W.Write.contents c.args.writer.now) told after framed l.refusals
           c.if-branch.refusals refused
           (subst (λ (o : Option Framed). TellsNext l.inlet c.next.new.self remaining later o)
@@ -165,6 +175,6 @@ pub returns-clause-served : goal.returns-clause-served
 returns-clause-served g c =
     let l = c.loop-answered in
     none_read c.args.alloc (setting_of c.args.desk.now.stock c.args.terms.now)
-    (g.R.Read.remaining c.args.reader.now) (g.R.Read.remaining l.reader) l.inlet c.args.desk.now
+    (g.R.Turns.left c.args.reader.now) (g.R.Turns.left l.reader) l.inlet c.args.desk.now
     l.desk (g.W.Write.contents c.args.writer.now) (g.W.Write.contents l.writer) l.refusals
     frame.NoMemory l.invariant.served

@@ -1,5 +1,5 @@
 -- `serve_line`: the line isn't answered, or its answer is written, in whole or in part.
-use Rattle.std.proofs.Common.{◌≡◌, ◌∙◌, ℕ, List, Bool, Result, Err, sym, ap, subst, string_bytes}
+use Rattle.std.proofs.Common.{◌∙◌, ℕ, List, Bool, Result, Err, sym, ap, subst, string_bytes}
 use Rattle.std.specs.Io.KnownBytes.{Appends}
 use Rattle.std.proofs.lemmas.Result.{err_from_is_err_and}
 use Rattle.td_bytes.specs.Pieces.{AppendsPrefix}

@@ -1,5 +1,5 @@
 -- `ground_over`: what is known of a ground.
-use Rattle.std.proofs.Common.{◌≡◌, ℕ, List, Option, subst, sym}
+use Rattle.std.proofs.Common.{ℕ, List, Option, subst, sym}
 use Rattle.std.proofs.lemmas.List.Elements.{All-from_recursion}
 use Rattle.td_rows.specs.KeyText.{KeyFits}
 use Rattle.td_rows.specs.Table.{keys_of}

@@ -1,5 +1,5 @@
 -- `FileDesk::answer_own`: the lines that change nothing, and want of memory.
-use Rattle.std.proofs.Common.{◌≡◌, List, ℕ, Option, Some, None, map, option_map, refl, sym, ap}
+use Rattle.std.proofs.Common.{◌≡◌, List, ℕ, Option, Some, None, map, sym, ap}
 use Rattle.std.proofs.Common.{subst, ◌∙◌}
 use Rattle.std.specs.String.{string_bytes}
 use Rattle.std.proofs.lemmas.Result.{err_from_is_err_and}

@@ -1,11 +1,10 @@
 -- `FileDesk::tell_builds`: the row with the number is the one that is told.
-use Rattle.std.proofs.Common.{◌≡◌, ◌+◌, ◌++◌, ℕ, List, length, sym, ap, ◌∙◌}
+use Rattle.std.proofs.Common.{◌≡◌, ◌+◌, ◌++◌, length, sym, ap, ◌∙◌}
 use Rattle.std.specs.Prelude.{slice_get}
 use Rattle.std.specs.String.{string_bytes}
 use Rattle.std.proofs.lemmas.Result.{on_ok_weaker}
 use Rattle.td_rows.specs.declared.row.Row.{Row}
 use Rattle.td_rows.specs.Table.{Table}
-use Rattle.td_supply.specs.Supply.{Stock}
 use Rattle.td_core.specs.History.{History, rows_of}
 use Rattle.td_lasting.specs.DeskAnswers.{builds_line}
 use Rattle.td_lasting.specs.DeskView.{DeskView}

@@ -1,5 +1,5 @@
 -- `Hands::held`: what it answers.
-use Rattle.std.proofs.Common.{ap, sym, ◌∙◌}
+use Rattle.std.proofs.Common.{sym}
 use Rattle.td_lasting.proofs.HandLaws.{held_found, held_none}
 use Rattle.td_lasting.proofs.hands.Hands.held.Goals as goal
 

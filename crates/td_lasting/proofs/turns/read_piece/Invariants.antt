@@ -2,7 +2,7 @@
 use Rattle.std.proofs.Common.{◌≡◌, length}
 use Rattle.std.specs.Io.KnownBytes.{Keeps}
 use Rattle.td_bytes.proofs.Failures.{AreBorne}
-use Rattle.td_lasting.proofs.framing.read_piece.Given as goal
+use Rattle.td_lasting.proofs.turns.read_piece.Given as goal
 
 abbrev pub invariant-loop-tries : goal.invariant-loop-tries
 invariant-loop-tries g l =
