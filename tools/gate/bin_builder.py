@@ -200,6 +200,7 @@ def stopped(runs):
             process.send_signal(number)
             desk.ended(name, process, 128 + number, out, said(f"stopped by {name}"))
             desk.row(name, "foo/amd64", "Needs-Build 0 1")
+            desk.wait_for_number()
         # a command that doesn't end by itself
         stubborn = shell("trap 'touch told' TERM; touch begun; while :; do sleep 1; done")
         process = desk.begin(["1", "amd64"], stubborn)

@@ -61,9 +61,19 @@ def not_read_beside_files(runs):
                          stderr=said_of("journal", fault))
 
 
+def has_terminals():
+    """Whether there are terminals here: in a chroot /dev/pts may not be mounted."""
+    try:
+        for end in os.openpty():
+            os.close(end)
+    except OSError:
+        return False
+    return True
+
+
 def breaks_off(runs):
     """A terminal can be read up to where its other end was closed."""
-    if not os.path.exists("/dev/ptmx"):
+    if not has_terminals():
         print("note: there are no terminals here: inputs that break off are left out")
         return
     crew = [*FOOBAR, "--builders", "1"]
