@@ -7,7 +7,7 @@ import os
 import tempfile
 import time
 
-from bin_days import archive, desk, held, read, write
+from bin_days import SECONDS, archive, desk, held, read, write
 
 HEADER = "source,architecture,version,state,binary_nmu_version,depends\n"
 SHORT = {
@@ -290,7 +290,7 @@ def many(room):
     took = time.monotonic() - begun
     room.runs.ran += 1
     found = (done.returncode, done.stdout.count(b"\n"), done.stderr)
-    if found != (0, 400, b"") or took > 60:
+    if found != (0, 400, b"") or took > SECONDS:
         room.runs.differs("follow: 20,000 rows", "400 answers, in time", (found, took))
 
 
