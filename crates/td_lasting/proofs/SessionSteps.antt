@@ -33,6 +33,7 @@ use Rattle.td_lasting.specs.Sessions.{framed_answer, framed_events, session, ses
 use Rattle.td_lasting.specs.inner.Inlets.{InletView, IsLeft, LeftBy, TellsFirst, TellsNext, Waits}
 use Rattle.td_lasting.specs.inner.Served.{IsLineLost, IsServedLine}
 use Rattle.td_lasting.proofs.Framings.{first_told, input_told, nothing_framed}
+use Rattle.td_lasting.proofs.Inlets.{left_read}
 use Rattle.td_lasting.proofs.Saves.{stays_found}
 use Rattle.td_lasting.proofs.SessionLaws.{events_append, events_more, same_events, session_more}
 use Rattle.td_lasting.proofs.SessionLaws.{session_tells, tells_more, tells_then}
@@ -230,23 +231,14 @@ pub record IsBehind (left now : List ℕ) : Type 0 where
   pub is_line : IsLine line
   pub parts : left ≡ line ++ now
 
-behind : (long : Bool) (ahead remaining left piece now : List ℕ)
-    → LeftBy long ahead remaining left → remaining ≡ piece ++ now → IsLine (ahead ++ piece)
+behind : (long : Bool) (ahead now left : List ℕ) → LeftBy long ahead now left → IsLine ahead
     → IsBehind left now
-behind false ahead remaining left piece now is read line =
+behind false ahead now left is line = record { line = ahead; is_line = line; parts = is }
+behind true ahead now left is line =
     record {
-      line = ahead ++ piece;
-      is_line = line;
-      parts = is ∙ ap (λ (l : List ℕ). ahead ++ l) read ∙ sym (append_assoc ahead piece now);
-    }
-behind true ahead remaining left piece now is read line =
-    record {
-      line = is.0 ++ (ahead ++ piece);
-      is_line = All-append (λ b. b ≢ 10) is.0 (ahead ++ piece) is.2 line;
-      parts = is.3
-          ∙ ap (λ (l : List ℕ). is.0 ++ l)
-          (ap (λ (l : List ℕ). ahead ++ l) read ∙ sym (append_assoc ahead piece now))
-          ∙ sym (append_assoc is.0 (ahead ++ piece) now);
+      line = is.0 ++ ahead;
+      is_line = All-append (λ b. b ≢ 10) is.0 ahead is.2 line;
+      parts = is.3 ∙ sym (append_assoc is.0 ahead now);
     }
 
 none_behind : (line now : List ℕ) → [] ≡ line ++ now → now ≡ []
@@ -261,7 +253,8 @@ turn_known s input remaining now inlet old v before told refused so_far waits = 
   where
     back : IsBehind so_far.left now
     back =
-        behind inlet.long inlet.ahead remaining so_far.left waits.0 now so_far.is_left waits.1
+        behind inlet.long (inlet.ahead ++ waits.0) now so_far.left
+        (left_read inlet.long inlet.ahead remaining now waits.0 so_far.left waits.1 so_far.is_left)
         waits.2
 
     by : AreTaken input so_far.left so_far.lines → IsTurnAt s old.history input now before told
